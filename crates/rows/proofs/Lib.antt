@@ -1,0 +1,9 @@
+pub mod Tree
+pub mod Parse
+pub mod Scan
+pub mod Accept
+pub mod Checksum
+pub mod Behind
+pub mod Entry
+pub mod Subtrees
+pub mod Promises

@@ -1,0 +1,31 @@
+-- The forest that a list of symbols spells, and the table of a row.
+use Prim.Native.Nat.{ℕ, zero, suc}
+use mathlib.Core.List.{List, [], _∷_}
+use lib.ListN.{getD}
+use Rattle.rows.specs.Tree.{Forest, Forest.none, Forest.grow, ends}
+
+-- the first k trees of a forest, and the others
+unfoldable pub first : ℕ → Forest → Forest
+first zero g = none
+first (suc k) none = none
+first (suc k) (grow s cs f) = grow s cs (first k f)
+
+unfoldable pub rest : ℕ → Forest → Forest
+rest zero g = g
+rest (suc k) none = none
+rest (suc k) (grow s cs f) = rest k f
+
+-- the symbol s over the first a trees of g, before the others
+unfoldable pub over : ℕ → ℕ → Forest → Forest
+over s a g = grow s (first a g) (rest a g)
+
+-- Read from the list's end: each symbol takes as many of the trees to its right as its arity says (or all, where there
+-- are fewer). So every list spells some forest; that of a row is the one tree whose prefix notation the row is
+-- (`TreeOfRow` in Promises).
+unfoldable pub parse : List ℕ → List ℕ → Forest
+parse A [] = none
+parse A (s ∷ w) = over s (getD A s 0) (parse A w)
+
+-- the table of a row: entry p is the position just after the last symbol of the subtree at p
+unfoldable pub table : List ℕ → List ℕ → List ℕ
+table A w = ends 0 (parse A w)

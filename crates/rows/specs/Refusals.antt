@@ -1,0 +1,161 @@
+-- Refusals: their numbers and places in document 01, and the order in which they are given.
+use Prim.Native.Nat.{ℕ, _+_}
+use mathlib.Core.List.{List, [], _∷_}
+use lib.Dec.{ltb, eqb}
+use lib.ListN.{length}
+use Rattle.rows.specs.Row.{pick, verdict, allowed, sized, reading}
+use Rattle.rows.specs.Parse.{table}
+use Rattle.rows.specs.declared.Fault.{Fault}
+use Rattle.rows.specs.declared.Fault.the-variants.{Empty, Long, Stray, Early, Extra}
+use Rattle.rows.specs.declared.Verdict.{Verdict}
+use Rattle.rows.specs.declared.Verdict.the-variants.{Whole, Faulty}
+use Rattle.rows.specs.declared.Leaves.the-variants.{Symbols, Blanks}
+use Rattle.rows.specs.declared.Refusal.{Refusal}
+use Rattle.rows.specs.declared.Refusal.the-variants.{AlphabetSize, ArityOver, NoLeaf, Row, BufferShort, Stale, OnRecord, OnRecordShort, OnRecordStale, Pattern, Replacement, Position, TooLong, OutputShort, Line, InputLong}
+use Rattle.rows.specs.declared.Check.{Check}
+use Rattle.rows.specs.declared.Check.the-variants.{Fine, Refused}
+
+infixr 20 _then_
+-- the number of a fault in a row; in the row on record; in a pattern; in a replacement
+abbrev pub rowNumber : Fault → ℕ
+rowNumber Empty = 4
+rowNumber (Long n) = 5
+rowNumber (Stray p) = 7
+rowNumber (Early n) = 8
+rowNumber (Extra p) = 9
+
+abbrev pub onRecordNumber : Fault → ℕ
+onRecordNumber Empty = 44
+onRecordNumber (Long n) = 45
+onRecordNumber (Stray p) = 47
+onRecordNumber (Early n) = 48
+onRecordNumber (Extra p) = 49
+
+abbrev pub patternNumber : Fault → ℕ
+patternNumber Empty = 11
+patternNumber (Long n) = 12
+patternNumber (Stray p) = 13
+patternNumber (Early n) = 14
+patternNumber (Extra p) = 15
+
+abbrev pub replacementNumber : Fault → ℕ
+replacementNumber Empty = 24
+replacementNumber (Long n) = 25
+replacementNumber (Stray p) = 27
+replacementNumber (Early n) = 28
+replacementNumber (Extra p) = 29
+
+abbrev pub faultPlace : Fault → ℕ
+faultPlace Empty = 0
+faultPlace (Long n) = n
+faultPlace (Stray p) = p
+faultPlace (Early n) = n
+faultPlace (Extra p) = p
+
+-- document 01's number of a refusal
+abbrev pub number : Refusal → ℕ
+number (AlphabetSize n) = 1
+number (ArityOver s) = 2
+number NoLeaf = 3
+number (Row f) = rowNumber f
+number (BufferShort n) = 6
+number (Stale p) = 10
+number (OnRecord f) = onRecordNumber f
+number (OnRecordShort n) = 46
+number (OnRecordStale p) = 50
+number (Pattern f) = patternNumber f
+number (Replacement f) = replacementNumber f
+number (Position p) = 17
+number (TooLong n) = 18
+number (OutputShort n) = 19
+number (Line k) = 60
+number InputLong = 61
+
+-- document 01's place of a refusal
+abbrev pub place : Refusal → ℕ
+place (AlphabetSize n) = n
+place (ArityOver s) = s
+place NoLeaf = 0
+place (Row f) = faultPlace f
+place (BufferShort n) = n
+place (Stale p) = p
+place (OnRecord f) = faultPlace f
+place (OnRecordShort n) = n
+place (OnRecordStale p) = p
+place (Pattern f) = faultPlace f
+place (Replacement f) = faultPlace f
+place (Position p) = p
+place (TooLong n) = n
+place (OutputShort n) = n
+place (Line k) = k
+place InputLong = 65536
+
+-- the first of two checks that refuses: the order of the refusals is the order of the checks in such a chain
+abbrev pub _then_ : Check → Check → Check
+Fine then c = c
+Refused r then c = Refused r
+
+-- 1 to 1,024 symbols
+unfoldable pub alphabetSize : ℕ → Check
+alphabetSize n = pick (ltb n 1) (Refused (AlphabetSize n)) (pick (ltb 1024 n) (Refused (AlphabetSize n)) Fine)
+
+-- each arity, from symbol `at` on, is at most 15
+unfoldable pub aritiesFit : ℕ → List ℕ → Check
+aritiesFit at [] = Fine
+aritiesFit at (a ∷ l) = pick (ltb 15 a) (Refused (ArityOver at)) (aritiesFit (at + 1) l)
+
+-- some arity is 0
+unfoldable pub someLeaf : List ℕ → Check
+someLeaf [] = Refused NoLeaf
+someLeaf (a ∷ l) = pick (eqb a 0) Fine (someLeaf l)
+
+-- 1, 2, 3: the alphabet
+unfoldable pub alphabet : List ℕ → Check
+alphabet A = alphabetSize (length A) then aritiesFit 0 A then someLeaf A
+
+-- a verdict on a row, a pattern, a replacement, as a check
+abbrev pub asRow : Verdict → Check
+asRow Whole = Fine
+asRow (Faulty f) = Refused (Row f)
+
+abbrev pub asPattern : Verdict → Check
+asPattern Whole = Fine
+asPattern (Faulty f) = Refused (Pattern f)
+
+abbrev pub asReplacement : Verdict → Check
+asReplacement Whole = Fine
+asReplacement (Faulty f) = Refused (Replacement f)
+
+-- 4, 5, 6: a row of n symbols, in and beside buffers of which the shortest has m places
+unfoldable pub sizes : ℕ → ℕ → Check
+sizes n m = asRow (sized n 16384) then pick (ltb m n) (Refused (BufferShort n)) Fine
+
+-- 7, 8, 9: the row is one tree's
+unfoldable pub symbols : List ℕ → List ℕ → Check
+symbols A w = asRow (verdict A (allowed Symbols A) 1 0 w)
+
+-- the first place, from `at` on, where the second list differs from the first
+unfoldable pub differs : ℕ → List ℕ → List ℕ → Check
+differs at [] t = Fine
+differs at (e ∷ es) [] = Refused (Stale at)
+differs at (e ∷ es) (x ∷ t) = pick (eqb x e) (differs (at + 1) es t) (Refused (Stale at))
+
+-- 10: the table is the row's; entries past the row's length are not looked at
+unfoldable pub fresh : List ℕ → List ℕ → List ℕ → Check
+fresh A w t = differs 0 (table A w) t
+
+-- 4 to 10: a row with its table
+unfoldable pub kept : List ℕ → List ℕ → List ℕ → Check
+kept A w t = sizes (length w) (length t) then symbols A w then fresh A w t
+
+-- 11 to 15: the pattern
+unfoldable pub pattern : List ℕ → List ℕ → Check
+pattern A q = asPattern (reading A Blanks 256 q)
+
+-- 24 to 29: the replacement
+unfoldable pub replacement : List ℕ → List ℕ → Check
+replacement A v = asReplacement (reading A Symbols 16384 v)
+
+-- 17: the position is below the row length n
+unfoldable pub position : ℕ → ℕ → Check
+position n p = pick (ltb p n) Fine (Refused (Position p))

@@ -1,0 +1,307 @@
+// The kernel: what is wrong with an alphabet, a row, a pattern or a replacement, and the checks that say so.
+ghost use mathlib.Core.Path.{_≡_};
+ghost use Prim.Native.Nat.{_≤_};
+ghost use lib.ListN.{length, getD};
+ghost use Rattle.rows.specs.Row.{verdict, isVariable, allowed, sized, reading};
+ghost use Rattle.rows.specs.Refusals.{rowNumber, onRecordNumber, patternNumber, replacementNumber, faultPlace, number, place, aritiesFit, someLeaf, alphabet, sizes};
+
+// What is wrong with a list that should be a tree's prefix notation: it is empty, it is too long, a number may not stand
+// in it, it ends before its tree does, it goes on after its tree.
+pub enum Fault {
+    Empty,
+    Long(usize),
+    Stray(usize),
+    Early(usize),
+    Extra(usize),
+}
+
+pub enum Verdict {
+    Whole,
+    Faulty(Fault),
+}
+
+// Which leaves may stand beside the symbols of the alphabet: none, or S and the variables.
+pub enum Leaves {
+    Symbols,
+    Blanks,
+}
+
+// Why a call refuses: all refusals of document 01. `number` and `place` of specs/Refusals give its numbers.
+pub enum Refusal {
+    AlphabetSize(usize),
+    ArityOver(usize),
+    NoLeaf,
+    Row(Fault),
+    BufferShort(usize),
+    Stale(usize),
+    OnRecord(Fault),
+    OnRecordShort(usize),
+    OnRecordStale(usize),
+    Pattern(Fault),
+    Replacement(Fault),
+    Position(usize),
+    TooLong(usize),
+    OutputShort(usize),
+    Line(usize),
+    InputLong,
+}
+
+pub enum Check {
+    Fine,
+    Refused(Refusal),
+}
+
+fn row_number(f: Fault) -> usize
+    ensures { λ r. ⌜ r ≡ rowNumber f ⌝ }
+{
+    match f {
+        Fault::Empty => 4,
+        Fault::Long(_) => 5,
+        Fault::Stray(_) => 7,
+        Fault::Early(_) => 8,
+        Fault::Extra(_) => 9,
+    }
+}
+
+fn on_record_number(f: Fault) -> usize
+    ensures { λ r. ⌜ r ≡ onRecordNumber f ⌝ }
+{
+    match f {
+        Fault::Empty => 44,
+        Fault::Long(_) => 45,
+        Fault::Stray(_) => 47,
+        Fault::Early(_) => 48,
+        Fault::Extra(_) => 49,
+    }
+}
+
+fn pattern_number(f: Fault) -> usize
+    ensures { λ r. ⌜ r ≡ patternNumber f ⌝ }
+{
+    match f {
+        Fault::Empty => 11,
+        Fault::Long(_) => 12,
+        Fault::Stray(_) => 13,
+        Fault::Early(_) => 14,
+        Fault::Extra(_) => 15,
+    }
+}
+
+fn replacement_number(f: Fault) -> usize
+    ensures { λ r. ⌜ r ≡ replacementNumber f ⌝ }
+{
+    match f {
+        Fault::Empty => 24,
+        Fault::Long(_) => 25,
+        Fault::Stray(_) => 27,
+        Fault::Early(_) => 28,
+        Fault::Extra(_) => 29,
+    }
+}
+
+fn fault_place(f: Fault) -> usize
+    ensures { λ r. ⌜ r ≡ faultPlace f ⌝ }
+{
+    match f {
+        Fault::Empty => 0,
+        Fault::Long(n) => n,
+        Fault::Stray(p) => p,
+        Fault::Early(n) => n,
+        Fault::Extra(p) => p,
+    }
+}
+
+// Document 01's number of a refusal.
+pub fn number_of(refusal: Refusal) -> usize
+    ensures { λ r. ⌜ r ≡ number refusal ⌝ }
+{
+    match refusal {
+        Refusal::AlphabetSize(_) => 1,
+        Refusal::ArityOver(_) => 2,
+        Refusal::NoLeaf => 3,
+        Refusal::Row(f) => row_number(f),
+        Refusal::BufferShort(_) => 6,
+        Refusal::Stale(_) => 10,
+        Refusal::OnRecord(f) => on_record_number(f),
+        Refusal::OnRecordShort(_) => 46,
+        Refusal::OnRecordStale(_) => 50,
+        Refusal::Pattern(f) => pattern_number(f),
+        Refusal::Replacement(f) => replacement_number(f),
+        Refusal::Position(_) => 17,
+        Refusal::TooLong(_) => 18,
+        Refusal::OutputShort(_) => 19,
+        Refusal::Line(_) => 60,
+        Refusal::InputLong => 61,
+    }
+}
+
+// Document 01's place of a refusal.
+pub fn place_of(refusal: Refusal) -> usize
+    ensures { λ r. ⌜ r ≡ place refusal ⌝ }
+{
+    match refusal {
+        Refusal::AlphabetSize(n) => n,
+        Refusal::ArityOver(s) => s,
+        Refusal::NoLeaf => 0,
+        Refusal::Row(f) => fault_place(f),
+        Refusal::BufferShort(n) => n,
+        Refusal::Stale(p) => p,
+        Refusal::OnRecord(f) => fault_place(f),
+        Refusal::OnRecordShort(n) => n,
+        Refusal::OnRecordStale(p) => p,
+        Refusal::Pattern(f) => fault_place(f),
+        Refusal::Replacement(f) => fault_place(f),
+        Refusal::Position(p) => p,
+        Refusal::TooLong(n) => n,
+        Refusal::OutputShort(n) => n,
+        Refusal::Line(k) => k,
+        Refusal::InputLong => 65536,
+    }
+}
+
+// Refusal 2: the first arity over 15.
+fn check_arities(arities: &[u16]) -> Check
+    ensures { λ r. ⌜ r ≡ aritiesFit 0 (now (arities .entry)) ⌝ }
+{
+    let mut i = 0;
+    while i < arities.len() {
+        if 15 < arities[i] {
+            return Check::Refused(Refusal::ArityOver(i));
+        }
+        i += 1;
+    }
+    Check::Fine
+}
+
+// Refusal 3: no symbol of arity 0.
+fn check_leaf(arities: &[u16]) -> Check
+    ensures { λ r. ⌜ r ≡ someLeaf (now (arities .entry)) ⌝ }
+{
+    let mut i = 0;
+    while i < arities.len() {
+        if arities[i] == 0 {
+            return Check::Fine;
+        }
+        i += 1;
+    }
+    Check::Refused(Refusal::NoLeaf)
+}
+
+// Refusals 1, 2 and 3.
+pub fn check_alphabet(arities: &[u16]) -> Check
+    ensures { λ r. ⌜ r ≡ alphabet (now (arities .entry)) ⌝ }
+{
+    let n = arities.len();
+    if n < 1 {
+        return Check::Refused(Refusal::AlphabetSize(n));
+    }
+    if 1024 < n {
+        return Check::Refused(Refusal::AlphabetSize(n));
+    }
+    match check_arities(arities) {
+        Check::Fine => check_leaf(arities),
+        Check::Refused(r) => Check::Refused(r),
+    }
+}
+
+// The arity of a number: its place in the alphabet says, and a number that is no symbol has none.
+pub fn arity_of(arities: &[u16], s: u16) -> u16
+    ensures { λ r. ⌜ r ≡ getD (now (arities .entry)) s 0 ⌝ }
+{
+    let k = s as usize;
+    if k < arities.len() { arities[k] } else { 0 }
+}
+
+// Is it one of X0 to X15?
+pub fn is_variable(s: u16) -> bool
+    ensures { λ r. ⌜ r ≡ isVariable s ⌝ }
+{
+    if s < 65280 {
+        return false;
+    }
+    s < 65296
+}
+
+// May the number stand?
+fn allows(leaves: Leaves, arities: &[u16], s: u16) -> bool
+    ensures { λ r. ⌜ r ≡ allowed leaves (now (arities .entry)) s ⌝ }
+{
+    let k = s as usize;
+    if k < arities.len() {
+        return true;
+    }
+    match leaves {
+        Leaves::Symbols => false,
+        Leaves::Blanks => {
+            if s == 65535 {
+                return true;
+            }
+            is_variable(s)
+        }
+    }
+}
+
+// Is it a tree's prefix notation, with these leaves? One pass, counting the subtrees that are still to come.
+pub fn check_row(arities: &[u16], row: &[u16], leaves: Leaves) -> Verdict
+    requires { ⌜ length (now row) ≤ 16384 ⌝ }
+    ensures { λ r. ⌜ r ≡ verdict (now (arities .entry)) (allowed leaves (now (arities .entry))) 1 0 (now (row .entry)) ⌝ }
+{
+    let mut need: usize = 1;
+    let mut i = 0;
+    while i < row.len() {
+        if need == 0 {
+            return Verdict::Faulty(Fault::Extra(i));
+        }
+        let s = row[i];
+        if allows(leaves, arities, s) {
+            need = need - 1 + arity_of(arities, s) as usize;
+            i += 1;
+        } else {
+            return Verdict::Faulty(Fault::Stray(i));
+        }
+    }
+    if need == 0 {
+        Verdict::Whole
+    } else {
+        Verdict::Faulty(Fault::Early(i))
+    }
+}
+
+// Is a length from 1 to `most`?
+fn check_size(n: usize, most: usize) -> Verdict
+    ensures { λ r. ⌜ r ≡ sized n most ⌝ }
+{
+    if n < 1 {
+        return Verdict::Faulty(Fault::Empty);
+    }
+    if most < n {
+        return Verdict::Faulty(Fault::Long(n));
+    }
+    Verdict::Whole
+}
+
+// A pattern or a replacement, whole: its length is from 1 to `most`, and it is a tree's prefix notation.
+pub fn check_reading(arities: &[u16], list: &[u16], leaves: Leaves, most: usize) -> Verdict
+    requires { ⌜ most ≤ 16384 ⌝ }
+    ensures { λ r. ⌜ r ≡ reading (now (arities .entry)) leaves most (now (list .entry)) ⌝ }
+{
+    match check_size(list.len(), most) {
+        Verdict::Faulty(f) => Verdict::Faulty(f),
+        Verdict::Whole => check_row(arities, list, leaves),
+    }
+}
+
+// Refusals 4, 5 and 6, for a row of n symbols and buffers with `room` places or more.
+pub fn check_sizes(n: usize, room: usize) -> Check
+    ensures { λ r. ⌜ r ≡ sizes n room ⌝ }
+{
+    match check_size(n, 16384) {
+        Verdict::Faulty(f) => Check::Refused(Refusal::Row(f)),
+        Verdict::Whole => {
+            if room < n {
+                return Check::Refused(Refusal::BufferShort(n));
+            }
+            Check::Fine
+        }
+    }
+}
