@@ -1,0 +1,59 @@
+-- Reading a tree off a list from left to right, counting the trees that are still to come.
+-- Assumes nothing.
+use Prim.Native.Nat.{ℕ, zero, suc, _+_, _-_, _≤_, _<_}
+use mathlib.Core.Path.{_≡_, refl, sym, ap, _∙_}
+use mathlib.Core.List.{List}
+use native.Mathlib.Nat.{add-zero, zero-add, suc-add}
+use native.Mathlib.Omega.{arith}
+use lib.ListN.{length, getD}
+use Rattle.rows.specs.Tree.{Forest, Forest.none, Forest.grow, size}
+use Rattle.rows.specs.Parse.{first, rest, over, parse}
+use Rattle.rows.proofs.Behind.{behind, behind-over, size-behind}
+
+first-none : (k : ℕ) → first k none ≡ none
+unfolding first
+first-none zero = refl
+first-none (suc k) = refl
+
+size-add : (a k : ℕ) (g : Forest) → size (first (a + k) g) ≡ size (first a g) + size (first k (rest a g))
+unfolding first rest size
+size-add zero k g = ap (λ (n : ℕ). size (first n g)) (zero-add k) ∙ sym (zero-add (size (first k g)))
+size-add (suc a) k none = ap size (first-none (suc a + k)) ∙ sym (zero-add (size (first k none)) ∙ ap size (first-none k))
+size-add (suc a) k (grow s cs f) = ap (λ (n : ℕ). size (first n (grow s cs f))) (suc-add a k) ∙ omega (arith, size-add a k f)
+
+-- where the next n trees from place i on end
+unfoldable pub reach : List ℕ → List ℕ → ℕ → ℕ → ℕ
+reach A w n i = i + size (first n (behind A w i))
+
+pub reach-start : (A w : List ℕ) → reach A w 1 0 ≡ size (first 1 (parse A w))
+unfolding reach behind
+reach-start A w = zero-add (size (first 1 (parse A w)))
+
+-- no tree is to come
+pub reach-none : (A w : List ℕ) (i : ℕ) → reach A w 0 i ≡ i
+unfolding reach first size
+reach-none A w i = add-zero i
+
+no-node : (n : ℕ) (g : Forest) → size g ≡ 0 → size (first n g) ≡ 0
+unfolding size
+no-node n none e = ap size (first-none n)
+no-node n (grow s cs f) e = absurd (omega arith)
+
+-- nothing is left to read
+pub reach-end : (A w : List ℕ) (n : ℕ) → reach A w n (length w) ≡ length w
+unfolding reach
+reach-end A w n =
+    let nothing : size (behind A w (length w)) ≡ 0 = size-behind A w (length w) ∙ omega arith in
+    omega (arith, no-node n (behind A w (length w)) nothing)
+
+-- one symbol on: its children are to come in its place
+pub reach-more : (A w : List ℕ) (n i : ℕ) → 0 < n → i < length w → reach A w n i ≡ reach A w (n - 1 + getD A (getD w i 0) 0) (i + 1)
+unfolding reach over first size
+reach-more A w n i some h =
+    let a : ℕ = getD A (getD w i 0) 0 in
+    let g : Forest = behind A w (i + 1) in
+    let down : n ≡ suc (n - 1) = omega arith in
+    let turn : n - 1 + a ≡ a + (n - 1) = omega arith in
+    ap (λ (m : ℕ). i + size (first m (behind A w i))) down
+    ∙ ap (λ (f : Forest). i + size (first (suc (n - 1)) f)) (behind-over A w i h)
+    ∙ omega (arith, size-add a (n - 1) g, ap (λ (m : ℕ). size (first m g)) turn)
