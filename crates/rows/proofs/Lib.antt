@@ -6,4 +6,5 @@ pub mod Checksum
 pub mod Behind
 pub mod Entry
 pub mod Subtrees
+pub mod Buffers
 pub mod Promises

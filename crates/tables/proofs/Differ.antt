@@ -1,22 +1,19 @@
 -- Laws of the check of a table: what `differs` says entry by entry, and the one pass from right to left.
 -- Assumes nothing.
-use Prim.Native.Nat.{ℕ, zero, suc, _+_, _≤_, _<_}
-use mathlib.Core.Path.{_≡_, refl, sym, ap, ap₂, _∙_, subst}
+use Prim.Native.Nat.{ℕ, zero, suc, _+_, _<_}
+use mathlib.Core.Path.{_≡_, refl, ap₂}
 use mathlib.Core.List.{List, [], _∷_, _++_}
 use mathlib.Core.Bool.{Bool, true, false}
 use native.Mathlib.Omega.{arith}
 use borrow.Author.Tests.{eq-eqb, eqb-true}
 use lib.Dec.{eqb}
-use lib.ListN.{length, getD, take, drop, set}
-use lib.Seq.{set-getD}
-use Rattle.rows.specs.Parse.{table}
+use lib.ListN.{length, getD, take, drop}
 use Rattle.rows.specs.Row.{pick}
-use Rattle.rows.specs.Refusals.{differs, fresh}
+use Rattle.rows.specs.Refusals.{differs}
 use Rattle.rows.specs.declared.Refusal.the-variants.{Stale}
 use Rattle.rows.specs.declared.Check.{Check}
 use Rattle.rows.specs.declared.Check.the-variants.{Fine, Refused}
 use Rattle.rows.proofs.Scan.{drop-more}
-use Rattle.rows.proofs.Entry.{length-table, entry-at}
 
 pub differs-none : (at : ℕ) (t : List ℕ) → differs at [] t ≡ Fine
 unfolding differs

@@ -2,7 +2,7 @@
 -- Assumes nothing.
 use Prim.Native.Nat.{ℕ, _+_, _-_, _≤_, _<_}
 use mathlib.Core.Path.{_≡_, refl, sym, ap, _∙_, subst}
-use mathlib.Core.List.{List, _++_}
+use mathlib.Core.List.{List}
 use mathlib.Core.Bool.{Bool, true, false}
 use native.Mathlib.Nat.{zero-add}
 use native.Mathlib.Omega.{arith}
@@ -10,13 +10,12 @@ use borrow.Author.Tests.{eqb-true, eqb-false}
 use lib.Dec.{T, ltb, eqb, ltb→lt, lt→ltb}
 use lib.ListN.{length, getD, drop, set}
 use lib.Seq.{set-getD, drop-length}
-use Rattle.rows.specs.Tree.{Forest, single, count, size, prefix, Ranked, ends}
-use Rattle.rows.specs.Parse.{first, rest, over, parse, table}
+use Rattle.rows.specs.Tree.{Forest, count, size, prefix, Ranked}
+use Rattle.rows.specs.Parse.{first, over, parse, table}
 use Rattle.rows.specs.Row.{Accepted, verdict, allowed}
 use Rattle.rows.specs.Buffers.{written}
 use Rattle.rows.specs.Refusals.{_then_, asRow, symbols, fresh}
 use Rattle.rows.specs.declared.Leaves.the-variants.{Symbols}
-use Rattle.rows.specs.declared.Verdict.the-variants.{Whole}
 use Rattle.rows.specs.declared.Check.{Check}
 use Rattle.rows.specs.declared.Check.the-variants.{Fine, Refused}
 use Rattle.rows.proofs.Tree.{count-first, ranked-first, ranked-rest}

@@ -13,10 +13,6 @@ use Rattle.tables.proofs.Fill.{partly, partly-none, partly-all, Turn, t
 use borrow.Author.Needs.{needs}
 use Rattle.tables.proofs.fill_ends.Statement.{statement}
 use Rattle.tables.proofs.fill_ends.Tie as tie
-use Rattle.tables.proofs.fill_ends.Reads as reads
-use Rattle.tables.proofs.fill_ends.Lts as lts
-use Rattle.rows.proofs.arity_of.Reads as arity-of-reads
-use Rattle.tables.proofs.hop.Reads as hop-reads
 
 abbrev Inv-loop : tie.InvT-loop
 Inv-loop arities row table₀ at p₀ table p =
@@ -58,65 +54,50 @@ turn c =
       deep = subst (λ (n : ℕ). n ≤ count (behind (A c) (W c) (q c + 1))) (sym (c .arity-of .ensures)) (enough-behind (A c) (allowed Symbols (A c)) (W c) 1 0 (s .pre .accepted) (q c) below);
     }
 
--- src/lib.rt:37:5
 loop-holds : tie.Need-loop-holds Inv-loop μ-loop
 loop-holds c =
     let a = c .before .before .before .args in
     (search needs, partly-none (a .arities .now) (a .row .now) (a .table .now) (a .at), refl)
 
--- src/lib.rt:38:9
 sub-p : tie.Need-sub-p Inv-loop μ-loop
 sub-p c = search needs
 
--- src/lib.rt:39:41
 mul-arity-of : tie.Need-mul-arity-of Inv-loop μ-loop
 mul-arity-of c = search needs
 
--- src/lib.rt:39:41
 shared-slice-read-arity-of : tie.Need-shared-slice-read-arity-of Inv-loop μ-loop
 shared-slice-read-arity-of c = search needs
 
--- src/lib.rt:39:17
 arity-of-requires : tie.Need-arity-of-requires Inv-loop μ-loop
 arity-of-requires c κs = search needs
 
--- src/lib.rt:39:17
 cast-a : tie.Need-cast-a Inv-loop μ-loop
 cast-a c = search needs
 
--- src/lib.rt:40:28
 add-hop : tie.Need-add-hop Inv-loop μ-loop
 add-hop c = search needs
 
--- src/lib.rt:40:28
 add-hop-2 : tie.Need-add-hop-2 Inv-loop μ-loop
 add-hop-2 c = search needs
 
--- src/lib.rt:40:13
 hop-requires : tie.Need-hop-requires Inv-loop μ-loop
 hop-requires c κs = turn-in (turn (c .before))
 
--- src/lib.rt:41:25
 cast-table : tie.Need-cast-table Inv-loop μ-loop
 cast-table c = omega (arith, c .hop .ensures, turn-within (turn (c .before .before)), c .before .before .before .before .before .before .before .before .before .pre .most)
 
--- src/lib.rt:41:15
 add-table : tie.Need-add-table Inv-loop μ-loop
 add-table c = search needs
 
--- src/lib.rt:41:9
 mul-table : tie.Need-mul-table Inv-loop μ-loop
 mul-table c = search needs
 
--- src/lib.rt:41:9
 slice-write-table : tie.Need-slice-write-table Inv-loop μ-loop
 slice-write-table c = search needs
 
--- src/lib.rt:37:5
 loop-less : tie.Need-loop-less Inv-loop μ-loop
 loop-less c = search needs
 
--- src/lib.rt:37:5
 loop-again : tie.Need-loop-again Inv-loop μ-loop
 loop-again c =
     let b = c .before .before in (
@@ -125,11 +106,9 @@ loop-again c =
       simp length-set (b .before .before .before .loop .inv .2),
     )
 
--- src/lib.rt:32:1
 same-length : tie.Need-same-length Inv-loop μ-loop
 same-length c = c .before .loop .inv .2
 
--- src/lib.rt:32:1
 returns : tie.Need-returns Inv-loop μ-loop
 returns c =
     let a = c .before .before .before .before .before .args in

@@ -1,7 +1,7 @@
 -- `tables::is_right` meets its contract. The loop's invariant: row and table are read, and right, from p on.
 -- Assumes nothing.
 use Prim.Native.Nat.{ℕ, _≤_, _<_, _-_, _+_}
-use mathlib.Core.Path.{_≡_, refl, sym, ap, _∙_, subst}
+use mathlib.Core.Path.{_≡_, refl, sym, _∙_, subst}
 use mathlib.Core.List.{List}
 use lib.ListN.{length, getD}
 use native.Mathlib.Omega.{arith}
@@ -9,9 +9,6 @@ use Rattle.tables.proofs.Pass.{Passed, passed-none, passed-more, hops-i
 use borrow.Author.Needs.{needs}
 use Rattle.tables.proofs.is_right.Statement.{statement}
 use Rattle.tables.proofs.is_right.Tie as tie
-use Rattle.tables.proofs.is_right.Reads as reads
-use Rattle.tables.proofs.is_right.Lts as lts
-use Rattle.tables.proofs.hop.Reads as hop-reads
 
 abbrev Inv-loop : tie.InvT-loop
 Inv-loop arities row table trees₀ p₀ trees p = (p ≤ length row) × (trees + p ≤ length row) × Passed arities row table trees p
@@ -43,89 +40,70 @@ passed i =
     let up : i .before .loop .p ≡ q i + 1 = omega arith in
     subst (Passed (A i) (W i) (T i) (i .before .loop .trees)) up (i .before .loop .inv .2)
 
--- src/lib.rt:70:5
 loop-holds : tie.Need-loop-holds Inv-loop μ-loop
 loop-holds c =
     let a = c .before .before .before .args in
     (search needs, search needs, passed-none (a .arities .now) (a .row .now) (a .table .now))
 
--- src/lib.rt:71:9
 sub-p : tie.Need-sub-p Inv-loop μ-loop
 sub-p c = search needs
 
--- src/lib.rt:72:17
 mul-s : tie.Need-mul-s Inv-loop μ-loop
 mul-s c = search needs
 
--- src/lib.rt:72:17
 shared-slice-read-s : tie.Need-shared-slice-read-s Inv-loop μ-loop
 shared-slice-read-s c = search needs
 
--- src/lib.rt:72:17
 cast-s : tie.Need-cast-s Inv-loop μ-loop
 cast-s c = omega (arith, c .shared-slice-known4 .given (q (c .before)))
 
--- src/lib.rt:74:13
 returns : tie.Need-returns Inv-loop μ-loop
 returns c =
     let i = c .before .before in
     sym (stop-stray (A i) (W i) (T i) (i .before .loop .trees) (q i) (i .before .before .before .before .before .pre) (below i) (passed i) (c .if1 .taken))
 
--- src/lib.rt:76:17
 mul-a : tie.Need-mul-a Inv-loop μ-loop
 mul-a c = search needs
 
--- src/lib.rt:76:17
 shared-slice-read-a : tie.Need-shared-slice-read-a Inv-loop μ-loop
 shared-slice-read-a c = search needs
 
--- src/lib.rt:76:17
 cast-a : tie.Need-cast-a Inv-loop μ-loop
 cast-a c = omega (arith, c .shared-slice-known5 .given (getD (W (c .before .before .before)) (q (c .before .before .before)) 0))
 
--- src/lib.rt:78:13
 returns-2 : tie.Need-returns-2 Inv-loop μ-loop
 returns-2 c =
     let i = c .before .before .before .before in
     sym (stop-few (A i) (W i) (T i) (i .before .loop .trees) (q i) (i .before .before .before .before .before .pre) (below i) (passed i) (c .if2 .taken))
 
--- src/lib.rt:80:28
 add-hop : tie.Need-add-hop Inv-loop μ-loop
 add-hop c = search needs
 
--- src/lib.rt:80:13
 hop-requires : tie.Need-hop-requires Inv-loop μ-loop
 hop-requires c κs =
     let i = c .before .before .before .before in
     hops-in (A i) (W i) (T i) (i .before .loop .trees) (q i) (i .before .before .before .before .before .pre) (below i) (passed i) _ refl (c .if2 .left)
 
--- src/lib.rt:81:17
 mul-if3 : tie.Need-mul-if3 Inv-loop μ-loop
 mul-if3 c = search needs
 
--- src/lib.rt:81:17
 shared-slice-read-if3 : tie.Need-shared-slice-read-if3 Inv-loop μ-loop
 shared-slice-read-if3 c = search needs
 
--- src/lib.rt:81:17
 cast-if3 : tie.Need-cast-if3 Inv-loop μ-loop
 cast-if3 c = omega (arith, c .shared-slice-known6 .given (q (c .before .before .before .before .before .before)))
 
--- src/lib.rt:82:13
 returns-3 : tie.Need-returns-3 Inv-loop μ-loop
 returns-3 c =
     let i = c .before .before .before .before .before .before .before in
     sym (stop-wrong (A i) (W i) (T i) (i .before .loop .trees) (q i) (i .before .before .before .before .before .pre) (below i) (passed i) _ refl (c .before .before .before .if2 .left) (λ e. c .if3 .taken (c .before .before .hop .ensures ∙ e)))
 
--- src/lib.rt:84:17
 add-trees : tie.Need-add-trees Inv-loop μ-loop
 add-trees c = search needs
 
--- src/lib.rt:70:5
 loop-less : tie.Need-loop-less Inv-loop μ-loop
 loop-less c = search needs
 
--- src/lib.rt:70:5
 loop-again : tie.Need-loop-again Inv-loop μ-loop
 loop-again c =
     let i = c .before .before .before .before .before .before .before in (
@@ -134,7 +112,6 @@ loop-again c =
       passed-more (A i) (W i) (T i) (i .before .loop .trees) (q i) (i .before .before .before .before .before .pre) (below i) (passed i) _ refl (c .before .before .before .if2 .left) (c .before .before .before .before .before .if1 .left) (sym (c .before .before .hop .ensures) ∙ c .if3 .left),
     )
 
--- src/lib.rt:64:1
 returns-4 : tie.Need-returns-4 Inv-loop μ-loop
 returns-4 c =
     let a = c .before .before .before .before .before .args in

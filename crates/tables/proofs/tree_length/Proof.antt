@@ -10,9 +10,6 @@ use Rattle.tables.proofs.Reach.{reach, reach-start, reach-none, reach-e
 use borrow.Author.Needs.{needs}
 use Rattle.tables.proofs.tree_length.Statement.{statement}
 use Rattle.tables.proofs.tree_length.Tie as tie
-use Rattle.tables.proofs.tree_length.Reads as reads
-use Rattle.tables.proofs.tree_length.Lts as lts
-use Rattle.rows.proofs.arity_of.Reads as arity-of-reads
 
 abbrev Inv-loop : tie.InvT-loop
 Inv-loop arities list need₀ i₀ need i =
@@ -21,12 +18,10 @@ Inv-loop arities list need₀ i₀ need i =
 abbrev μ-loop : tie.MeasureT-loop
 μ-loop arities list need₀ i₀ need i = length list - i
 
--- src/lib.rt:52:5
 loop-holds : tie.Need-loop-holds Inv-loop μ-loop
 loop-holds c =
     (search needs, search needs, reach-start (c .before .before .args .arities .now) (c .before .before .args .list .now))
 
--- src/lib.rt:54:13
 returns : tie.Need-returns Inv-loop μ-loop
 returns c =
     let l = c .before .before in
@@ -35,39 +30,30 @@ returns c =
     ∙ ap (λ (n : ℕ). reach (a .arities .now) (a .list .now) n (l .loop .i)) (sym (c .if1 .taken))
     ∙ l .loop .inv .2
 
--- src/lib.rt:56:16
 sub-need : tie.Need-sub-need Inv-loop μ-loop
 sub-need c = search needs
 
--- src/lib.rt:56:51
 mul-arity-of : tie.Need-mul-arity-of Inv-loop μ-loop
 mul-arity-of c = search needs
 
--- src/lib.rt:56:51
 shared-slice-read-arity-of : tie.Need-shared-slice-read-arity-of Inv-loop μ-loop
 shared-slice-read-arity-of c = search needs
 
--- src/lib.rt:56:27
 arity-of-requires : tie.Need-arity-of-requires Inv-loop μ-loop
 arity-of-requires c κs = search needs
 
--- src/lib.rt:56:27
 cast-need : tie.Need-cast-need Inv-loop μ-loop
 cast-need c = search needs
 
--- src/lib.rt:56:16
 add-need : tie.Need-add-need Inv-loop μ-loop
 add-need c = search needs
 
--- src/lib.rt:57:9
 add-i : tie.Need-add-i Inv-loop μ-loop
 add-i c = search needs
 
--- src/lib.rt:52:5
 loop-less : tie.Need-loop-less Inv-loop μ-loop
 loop-less c = search needs
 
--- src/lib.rt:52:5
 loop-again : tie.Need-loop-again Inv-loop μ-loop
 loop-again c =
     let l = c .before .before .before .before in
@@ -79,7 +65,6 @@ loop-again c =
           ∙ l .loop .inv .2,
     )
 
--- src/lib.rt:46:1
 returns-2 : tie.Need-returns-2 Inv-loop μ-loop
 returns-2 c =
     let l = c .before in
