@@ -1,27 +1,24 @@
 -- The promises of specs/Promises, each with its proof.
 -- Assumes nothing.
 use Prim.Native.Nat.{ℕ, _+_}
-use mathlib.Core.Path.{_≡_, refl, sym, ap, _∙_}
-use mathlib.Core.List.{List}
+use mathlib.Core.Path.{_≡_, sym, ap, _∙_}
 use native.Mathlib.Nat.{zero-add}
 use lib.ListN.{length, take, drop}
 use lib.Seq.{drop-at}
-use Rattle.rows.specs.Tree.{IsRow, single, ends}
+use Rattle.rows.specs.Tree.{IsRow}
 use Rattle.rows.specs.Parse.{table}
 use Rattle.rows.specs.Row.{symbol, verdict, allowed}
 use Rattle.rows.specs.Buffers.{written, after}
-use Rattle.rows.specs.Refusals.{_then_, asRow, alphabet, sizes, symbols}
+use Rattle.rows.specs.Refusals.{_then_, asRow, sizes, symbols}
 use Rattle.rows.specs.declared.Leaves.the-variants.{Symbols}
-use Rattle.rows.specs.declared.Verdict.the-variants.{Whole}
 use Rattle.rows.specs.declared.Check.{Check}
-use Rattle.rows.specs.declared.Check.the-variants.{Fine, Refused}
-use Rattle.rows.proofs.Accept.{whole-of-row}
-use Rattle.rows.proofs.Accept.{row-of-whole}
+use Rattle.rows.specs.declared.Check.the-variants.{Fine}
+use Rattle.rows.proofs.Accept.{whole-of-row, row-of-whole}
 use Rattle.rows.proofs.Buffers.{written-front}
 use Rattle.rows.proofs.Entry.{length-table}
 use Rattle.rows.proofs.Promises.{table-of-row}
 use Rattle.tables.proofs.Given.{row-fine}
-use Rattle.sparrowhem.specs.Build.{buildCheck, Built}
+use Rattle.sparrowhem.specs.Build.{buildCheck}
 use Rattle.sparrowhem.specs.Promises.{Build-settled, Build-refused, Build-accepts, Build-writes}
 
 pub build-settled : Build-settled

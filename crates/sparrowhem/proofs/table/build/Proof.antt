@@ -1,0 +1,55 @@
+-- `sparrowhem::build` meets its contract. The table is filled where nothing is refused.
+-- Assumes nothing.
+use mathlib.Core.Path.{_≡_, sym, _∙_}
+use lib.ListN.{length}
+use Rattle.rows.specs.Parse.{table}
+use Rattle.rows.specs.declared.Check.the-variants.{Fine}
+use Rattle.sparrowhem.specs.Build.{buildCheck}
+use Rattle.sparrowhem.proofs.Building.{build-fillable}
+use borrow.Author.Needs.{needs}
+use Rattle.sparrowhem.proofs.table.build.Statement.{statement}
+use Rattle.sparrowhem.proofs.table.build.Tie as tie
+
+fine : (c : tie.After-fill-ends-arg)
+    → _≡_ (buildCheck (c .before .before .before .before .before .before .before .args .arities .now) (c .before .before .before .before .before .before .before .args .row .now) (length (c .before .before .before .before .before .before .before .args .table .now))) Fine
+fine c = sym (c .before .before .before .check-build .ensures) ∙ c .before .enum-told .given .1
+
+check-build-requires : tie.Need-check-build-requires
+check-build-requires c κs = search needs
+
+enum-known-r : tie.Need-enum-known-r
+enum-known-r c = search needs
+
+enum-told : tie.Need-enum-told
+enum-told c = search needs
+
+fill-ends-requires : tie.Need-fill-ends-requires
+fill-ends-requires c κs =
+    let a = c .before .before .before .before .before .before .before .args in
+    build-fillable (a .arities .now) (a .row .now) (a .table .now) (fine c)
+
+returns : tie.Need-returns
+returns c =
+    let e = sym (c .before .before .before .check-build .ensures) ∙ c .before .r .given .1 in
+    record { answer = sym e; table = simp e }
+
+same-length : tie.Need-same-length
+same-length c = search needs
+
+returns-2 : tie.Need-returns-2
+unfolding table
+returns-2 c =
+    let e = fine (c .before .before .before) in
+    record { answer = sym e; table = simp e (c .before .before .fill-ends .ensures) }
+
+pub build-spec : {M : Type 1} → statement M
+build-spec =
+    tie.close
+    (tie.spec
+    check-build-requires
+    enum-known-r
+    enum-told
+    fill-ends-requires
+    returns
+    same-length
+    returns-2)

@@ -1,0 +1,84 @@
+-- `sparrowhem::check_build` meets its contract. The checks on the way decide each case.
+-- Assumes nothing.
+use mathlib.Core.Path.{sym, _∙_}
+use lib.ListN.{length}
+use Rattle.rows.specs.Refusals.{symbols}
+use Rattle.tables.proofs.Given.{sizes-fits}
+use Rattle.sparrowhem.specs.Build.{buildCheck}
+use borrow.Author.Needs.{needs}
+use Rattle.sparrowhem.proofs.table.check_build.Statement.{statement}
+use Rattle.sparrowhem.proofs.table.check_build.Tie as tie
+
+check-alphabet-requires : tie.Need-check-alphabet-requires
+check-alphabet-requires c κs = search needs
+
+enum-known-r : tie.Need-enum-known-r
+enum-known-r c = search needs
+
+enum-told : tie.Need-enum-told
+enum-told c = search needs
+
+check-sizes-requires : tie.Need-check-sizes-requires
+check-sizes-requires c κs = search needs
+
+enum-known-r-2 : tie.Need-enum-known-r-2
+enum-known-r-2 c = search needs
+
+enum-told-2 : tie.Need-enum-told-2
+enum-told-2 c = search needs
+
+check-row-requires : tie.Need-check-row-requires
+check-row-requires c κs =
+    let a = c .before .before .before .before .before .before .before .before .args in
+    sizes-fits (length (a .row .now)) (a .places) (sym (c .before .before .check-sizes .ensures) ∙ c .enum-told2 .given .1) .most
+
+enum-known-f : tie.Need-enum-known-f
+enum-known-f c = search needs
+
+enum-told-3 : tie.Need-enum-told-3
+enum-told-3 c = search needs
+
+returns : tie.Need-returns
+unfolding buildCheck
+returns c = simp (sym (c .before .before .before .check-alphabet .ensures) ∙ c .before .r .given .1)
+
+returns-2 : tie.Need-returns-2
+unfolding buildCheck
+returns-2 c =
+    simp (sym (c .before .before .before .before .before .before .check-alphabet .ensures) ∙ c .before .before .before .before .enum-told .given .1, sym (c .before .before .before .check-sizes .ensures) ∙ c .before .r2 .given .1)
+
+returns-3 : tie.Need-returns-3
+unfolding buildCheck symbols
+returns-3 c =
+    simp (
+      sym (c .before .before .before .before .before .before .before .before .before .check-alphabet .ensures) ∙ c .before .before .before .before .before .before .before .enum-told .given .1,
+      sym (c .before .before .before .before .before .before .check-sizes .ensures) ∙ c .before .before .before .before .enum-told2 .given .1,
+      sym (c .before .before .before .check-row .ensures) ∙ c .before .f .given .1,
+    )
+
+returns-4 : tie.Need-returns-4
+unfolding buildCheck symbols
+returns-4 c =
+    simp (
+      sym (c .before .before .before .before .before .before .before .before .check-alphabet .ensures) ∙ c .before .before .before .before .before .before .enum-told .given .1,
+      sym (c .before .before .before .before .before .check-sizes .ensures) ∙ c .before .before .before .enum-told2 .given .1,
+      sym (c .before .before .check-row .ensures) ∙ c .enum-told3 .given .1,
+    )
+
+pub check-build-spec : {M : Type 1} → statement M
+check-build-spec =
+    tie.close
+    (tie.spec
+    check-alphabet-requires
+    enum-known-r
+    enum-told
+    check-sizes-requires
+    enum-known-r-2
+    enum-told-2
+    check-row-requires
+    enum-known-f
+    enum-told-3
+    returns
+    returns-2
+    returns-3
+    returns-4)
