@@ -1,0 +1,9 @@
+// Runs document 01's worked programmes and the sizes at their limits on the public calls, and prints each answer and
+// what the call leaves in its buffers.
+mod building;
+mod printing;
+
+fn main() {
+    building::small();
+    building::limits();
+}
