@@ -12,8 +12,8 @@ use native.Mathlib.Omega.{arith}
 use lib.Dec.{T}
 use lib.ListN.{length, getD, drop}
 use lib.Seq.{drop-cons}
-use Rattle.rows.specs.Tree.{Forest, Forest.none, Forest.grow, Tree, single, IsRow, count, size, prefix, Ranked}
-use Rattle.rows.specs.Parse.{over, parse}
+use Rattle.rows.specs.Tree.{Forest, Forest.none, Forest.grow, Tree, single, IsRow, count, size, prefix, Ranked, subtrees, subtreeAt}
+use Rattle.rows.specs.Parse.{over, parse, treeOf}
 use Rattle.rows.specs.Row.{verdict, pick}
 use Rattle.rows.specs.declared.Fault.the-variants.{Stray}
 use Rattle.rows.specs.declared.Verdict.{Verdict}
@@ -99,6 +99,16 @@ whole-iff-row A ok w = (row-of-whole A ok w, whole-of-row A ok w)
 -- what `parse` finds at a row is the row's tree
 pub parse-row : (A : List ℕ) (ok : ℕ → Bool) (w : List ℕ) → (r : IsRow A ok w) → parse A w ≡ single (r .tree)
 parse-row A ok w r = ap (parse A) (sym (r .reads)) ∙ parse-prefix A ok (single (r .tree)) (r .ranked)
+
+pub tree-row : (A : List ℕ) (ok : ℕ → Bool) (w : List ℕ) → (r : IsRow A ok w) → treeOf A w ≡ r .tree
+unfolding subtrees
+tree-row A ok w r = ap (λ (f : Forest). subtreeAt f 0) (parse-row A ok w r)
+
+-- an accepted list spells its tree alone
+pub parse-whole : (A : List ℕ) (ok : ℕ → Bool) (w : List ℕ) → verdict A ok 1 0 w ≡ Whole → parse A w ≡ single (treeOf A w)
+parse-whole A ok w e =
+    let r = row-of-whole A ok w e in
+    parse-row A ok w r ∙ ap single (sym (tree-row A ok w r))
 
 -- the rest of an accepted list is accepted, with some number of trees to come
 pub whole-drop : (A : List ℕ) (ok : ℕ → Bool) (p : ℕ) (w : List ℕ) (k at : ℕ) → verdict A ok k at w ≡ Whole

@@ -5,7 +5,7 @@ use Rattle.rows.specs.Tree.{Forest, single, prefix, ends, subtreeAt}
 use Rattle.rows.specs.Parse.{table}
 use Rattle.rows.specs.Promises.{Reads-rows, Checksum-rule, One-tree, No-beginning, Tree-of-row, Table-of-row, Entry-of-table}
 use Rattle.rows.proofs.Parse.{same-tree, no-longer}
-use Rattle.rows.proofs.Accept.{whole-iff-row, whole-of-row, parse-row}
+use Rattle.rows.proofs.Accept.{whole-iff-row, whole-of-row, parse-row, tree-row}
 use Rattle.rows.proofs.Checksum.{row-iff-checks}
 use Rattle.rows.proofs.Entry.{entry-bounds, entry-only}
 use Rattle.rows.proofs.Subtrees.{subtree-row}
@@ -23,7 +23,7 @@ pub no-beginning : No-beginning
 no-beginning A ok = no-longer A ok ok
 
 pub tree-of-row : Tree-of-row
-tree-of-row = parse-row
+tree-of-row A ok w r = (parse-row A ok w r, tree-row A ok w r)
 
 pub table-of-row : Table-of-row
 unfolding table

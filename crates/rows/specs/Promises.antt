@@ -7,7 +7,7 @@ use mathlib.Core.Bool.{Bool}
 use mathlib.Core.Logic.{_↔_}
 use lib.ListN.{length, getD, take, drop}
 use Rattle.rows.specs.Tree.{Tree, single, prefix, Ranked, IsRow, ends, subtreeAt}
-use Rattle.rows.specs.Parse.{parse, table}
+use Rattle.rows.specs.Parse.{parse, treeOf, table}
 use Rattle.rows.specs.Row.{verdict, Checks, Every}
 use Rattle.rows.specs.declared.Verdict.the-variants.{Whole}
 
@@ -28,9 +28,9 @@ One-tree = (A : List ℕ) (ok : ℕ → Bool) (t u : Tree) → Ranked A ok (sing
 abbrev pub No-beginning : Type 0
 No-beginning = (A : List ℕ) (ok : ℕ → Bool) (w v : List ℕ) → IsRow A ok w → IsRow A ok (w ++ v) → v ≡ []
 
--- `parse` finds a row's tree
+-- `parse` and `treeOf` find a row's tree
 abbrev pub Tree-of-row : Type 0
-Tree-of-row = (A : List ℕ) (ok : ℕ → Bool) (w : List ℕ) (r : IsRow A ok w) → parse A w ≡ single (r .tree)
+Tree-of-row = (A : List ℕ) (ok : ℕ → Bool) (w : List ℕ) (r : IsRow A ok w) → (parse A w ≡ single (r .tree)) × (treeOf A w ≡ r .tree)
 
 -- the table of a row holds the ends of its tree's subtrees
 abbrev pub Table-of-row : Type 0

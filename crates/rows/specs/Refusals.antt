@@ -148,6 +148,10 @@ fresh A w t = differs 0 (table A w) t
 unfoldable pub kept : List ℕ → List ℕ → List ℕ → Check
 kept A w t = sizes (length w) (length t) then symbols A w then fresh A w t
 
+-- 1 to 10: an alphabet, and a row with its table
+unfoldable pub given : List ℕ → List ℕ → List ℕ → Check
+given A w t = alphabet A then kept A w t
+
 -- 11 to 15: the pattern
 unfoldable pub pattern : List ℕ → List ℕ → Check
 pattern A q = asPattern (reading A Blanks 256 q)

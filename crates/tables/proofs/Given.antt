@@ -11,7 +11,7 @@ use lib.ListN.{length, getD, take}
 use lib.Seq.{getD-take}
 use Rattle.rows.specs.Parse.{table}
 use Rattle.rows.specs.Row.{pick, sized, verdict, allowed}
-use Rattle.rows.specs.Refusals.{_then_, asRow, sizes, symbols, fresh, kept}
+use Rattle.rows.specs.Refusals.{_then_, asRow, alphabet, sizes, symbols, fresh, kept, given}
 use Rattle.rows.specs.declared.Leaves.the-variants.{Symbols}
 use Rattle.rows.specs.declared.Verdict.{Verdict}
 use Rattle.rows.specs.declared.Verdict.the-variants.{Whole, Faulty}
@@ -73,6 +73,11 @@ kept-right A w t e =
     let both = both-fine (sizes (length w) (length t)) (symbols A w then fresh A w t) e in
     let fits = sizes-fits (length w) (length t) (both .0) in
     check-right A w t (record { most = fits .most; fits = fits .room }) (both .1)
+
+-- and so do refusals 1 to 10
+pub given-right : (A w t : List ℕ) → given A w t ≡ Fine → Right A w t
+unfolding given
+given-right A w t e = kept-right A w t (both-fine (alphabet A) (kept A w t) e .1)
 
 -- an entry of a right table is the row's, and lies behind its position, within the row
 pub right-entry : (A w t : List ℕ) → Right A w t → (p : ℕ) → p < length w → getD t p 0 ≡ getD (table A w) p 0

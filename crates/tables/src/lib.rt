@@ -5,7 +5,7 @@ ghost use lib.ListN.{length};
 ghost use Rattle.rows.specs.Tree.{size, ends};
 ghost use Rattle.rows.specs.Parse.{first, parse};
 ghost use Rattle.rows.specs.Buffers.{written};
-ghost use Rattle.rows.specs.Refusals.{_then_, symbols, fresh, kept};
+ghost use Rattle.rows.specs.Refusals.{_then_, symbols, fresh, kept, given};
 ghost use Rattle.tables.specs.Hops.{hops};
 ghost use Rattle.tables.specs.Given.{Sized, Fillable, isFine};
 use rows::Check;
@@ -131,5 +131,15 @@ pub fn check_kept(arities: &[u16], row: &[u16], table: &[u16]) -> Check
     match rows::check_sizes(row.len(), table.len()) {
         Check::Refused(r) => Check::Refused(r),
         Check::Fine => check_right(arities, row, table),
+    }
+}
+
+// Refusals 1 to 10: an alphabet, and a row with its table.
+pub fn check_given(arities: &[u16], row: &[u16], table: &[u16]) -> Check
+    ensures { λ r. ⌜ r ≡ given (now (arities .entry)) (now (row .entry)) (now (table .entry)) ⌝ }
+{
+    match rows::check_alphabet(arities) {
+        Check::Refused(r) => Check::Refused(r),
+        Check::Fine => check_kept(arities, row, table),
     }
 }
