@@ -1,0 +1,34 @@
+-- `sparrowhem::check_subtree` meets its contract. The checks on the way decide each case.
+-- Assumes nothing.
+use mathlib.Core.Path.{sym, _∙_}
+use borrow.Author.Tests.{lt-ltb, le-ltb}
+use Rattle.rows.specs.Refusals.{position}
+use Rattle.sparrowhem.specs.Parts.{subtreeCheck}
+use borrow.Author.Needs.{needs}
+use Rattle.sparrowhem.proofs.parts.check_subtree.Statement.{statement}
+use Rattle.sparrowhem.proofs.parts.check_subtree.Tie as tie
+
+check-given-requires : tie.Need-check-given-requires
+check-given-requires c κs = search needs
+
+enum-known-r : tie.Need-enum-known-r
+enum-known-r c = search needs
+
+enum-told : tie.Need-enum-told
+enum-told c = search needs
+
+returns : tie.Need-returns
+unfolding subtreeCheck position
+returns c = simp (sym (c .before .before .before .check-given .ensures) ∙ c .before .enum-told .given .1, lt-ltb _ _ (c .if1 .taken))
+
+returns-2 : tie.Need-returns-2
+unfolding subtreeCheck
+returns-2 c = simp (sym (c .before .before .before .check-given .ensures) ∙ c .before .r .given .1)
+
+returns-3 : tie.Need-returns-3
+unfolding subtreeCheck position
+returns-3 c = simp (sym (c .before .before .before .check-given .ensures) ∙ c .before .enum-told .given .1, le-ltb _ _ (c .if1 .left))
+
+pub check-subtree-spec : {M : Type 1} → statement M
+check-subtree-spec =
+    tie.close (tie.spec check-given-requires enum-known-r enum-told returns returns-2 returns-3)

@@ -1,0 +1,75 @@
+-- `sparrowhem::subtree` meets its contract. The span that the companion answers is that of the subtree.
+-- Assumes nothing.
+-- the companion has answered with a span
+use Prim.Native.Nat.{_<_, _≤_}
+use mathlib.Core.Path.{sym, _∙_}
+use native.Mathlib.Omega.{arith}
+use lib.ListN.{length}
+use Rattle.sparrowhem.proofs.Handing.{Spans, answer-span, answer-none, span-within, span-part}
+use borrow.Author.Needs.{needs}
+use Rattle.sparrowhem.proofs.parts.subtree.Statement.{statement}
+use Rattle.sparrowhem.proofs.parts.subtree.Tie as tie
+
+spans : (c : tie.After-known-told)
+    → Spans (c .before .before .before .before .before .before .before .args .arities .now) (c .before .before .before .before .before .before .before .args .row .now) (c .before .before .before .before .before .before .before .args .table .now) (c .before .before .before .before .before .before .before .args .position) (c .before .begin .given .0 .0) (c .before .begin .given .0 .1 .0)
+spans c =
+    let a = c .before .before .before .before .before .before .before .args in
+    answer-span (a .arities .now) (a .row .now) (a .table .now) (a .position) _ _ (sym (c .before .before .before .subtree-answer .ensures) ∙ c .before .begin .given .1)
+
+within : (c : tie.After-known-told) → (c .before .begin .given .0 .0 < c .before .begin .given .0 .1 .0) × (c .before .begin .given .0 .1 .0 ≤ length (c .before .before .before .before .before .before .before .args .row .now))
+within c = let a = c .before .before .before .before .before .before .before .args in span-within (a .arities .now) (a .row .now) (a .table .now) (a .position) _ _ (spans c)
+
+subtree-answer-requires : tie.Need-subtree-answer-requires
+subtree-answer-requires c κs = search needs
+
+enum-told : tie.Need-enum-told
+enum-told c = search needs
+
+sub-result : tie.Need-sub-result
+sub-result c = search needs
+
+part-result-start : tie.Need-part-result-start
+part-result-start c = search needs
+
+part-result-end : tie.Need-part-result-end
+part-result-end c = search needs
+
+enum-known-begin : tie.Need-enum-known-begin
+enum-known-begin c = search needs
+
+mul-result : tie.Need-mul-result
+mul-result c = omega (arith, within c)
+
+sub-result-2 : tie.Need-sub-result-2
+sub-result-2 c = omega (arith, within c)
+
+part-result-start-2 : tie.Need-part-result-start-2
+part-result-start-2 c = omega (arith, within c)
+
+part-result-end-2 : tie.Need-part-result-end-2
+part-result-end-2 c = omega (arith, within c)
+
+returns : tie.Need-returns
+returns c =
+    let a = c .before .before .before .before .before .before .before .args in
+    sym (answer-none (a .arities .now) (a .row .now) (a .table .now) (a .position) _ (sym (c .before .before .before .subtree-answer .ensures) ∙ c .before .enum-told .given .1))
+
+returns-2 : tie.Need-returns-2
+returns-2 c = let a = c .before .before .before .before .before .before .before .before .args in sym (span-part (a .arities .now) (a .row .now) (a .table .now) (a .position) _ _ (spans (c .before)))
+
+pub subtree-spec : {M : Type 1} → statement M
+subtree-spec =
+    tie.close
+    (tie.spec
+    subtree-answer-requires
+    enum-told
+    sub-result
+    part-result-start
+    part-result-end
+    enum-known-begin
+    mul-result
+    sub-result-2
+    part-result-start-2
+    part-result-end-2
+    returns
+    returns-2)
