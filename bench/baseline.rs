@@ -1,0 +1,266 @@
+//! The calls of the library once more, in plain safe Rust, written from document 01 alone: what they are timed against.
+//! A refusal is its number and its place.
+
+pub type Refusal = (u32, u64);
+
+const BLANK: u16 = 65535;
+
+fn variable(s: u16) -> Option<usize> {
+    (65280..65296).contains(&s).then(|| (s - 65280) as usize)
+}
+
+fn check_alphabet(arities: &[u16]) -> Result<(), Refusal> {
+    if arities.is_empty() || arities.len() > 1024 {
+        return Err((1, arities.len() as u64));
+    }
+    if let Some(s) = arities.iter().position(|&a| a > 15) {
+        return Err((2, s as u64));
+    }
+    if !arities.contains(&0) {
+        return Err((3, 0));
+    }
+    Ok(())
+}
+
+/// Numbers of the refusals of a list that should be one tree's: empty, too long, bad number, ends early, goes on.
+const ROW: [u32; 5] = [4, 5, 7, 8, 9];
+const PATTERN: [u32; 5] = [11, 12, 13, 14, 15];
+const REPLACEMENT: [u32; 5] = [24, 25, 27, 28, 29];
+
+fn check_size(n: usize, most: usize, number: [u32; 5]) -> Result<(), Refusal> {
+    match n {
+        0 => Err((number[0], 0)),
+        n if n > most => Err((number[1], n as u64)),
+        _ => Ok(()),
+    }
+}
+
+fn check_reading(arities: &[u16], list: &[u16], blanks: bool, number: [u32; 5]) -> Result<(), Refusal> {
+    let mut need = 1usize;
+    for (i, &s) in list.iter().enumerate() {
+        if need == 0 {
+            return Err((number[4], i as u64));
+        }
+        need = match arities.get(s as usize) {
+            Some(&a) => need - 1 + a as usize,
+            None if blanks && (s == BLANK || variable(s).is_some()) => need - 1,
+            None => return Err((number[2], i as u64)),
+        };
+    }
+    if need > 0 {
+        return Err((number[3], list.len() as u64));
+    }
+    Ok(())
+}
+
+/// Writes the ends of a row that stands from `at` on.
+fn fill(arities: &[u16], row: &[u16], table: &mut [u16], at: usize) {
+    for p in (0..row.len()).rev() {
+        let mut e = at + p + 1;
+        for _ in 0..arities[row[p] as usize] {
+            e = table[e] as usize;
+        }
+        table[at + p] = e as u16;
+    }
+}
+
+/// The row is accepted: is each entry the row's?
+fn check_table(arities: &[u16], row: &[u16], table: &[u16]) -> Result<(), Refusal> {
+    for p in (0..row.len()).rev() {
+        let mut e = p + 1;
+        for _ in 0..arities[row[p] as usize] {
+            e = table[e] as usize;
+        }
+        if e != table[p] as usize {
+            let mut right = vec![0; row.len()];
+            fill(arities, row, &mut right, 0);
+            let first = right.iter().zip(table).position(|(r, t)| r != t);
+            return Err((10, first.unwrap_or(p) as u64));
+        }
+    }
+    Ok(())
+}
+
+fn check_given(arities: &[u16], row: &[u16], table: &[u16]) -> Result<(), Refusal> {
+    check_alphabet(arities)?;
+    check_size(row.len(), 16384, ROW)?;
+    if table.len() < row.len() {
+        return Err((6, row.len() as u64));
+    }
+    check_reading(arities, row, false, ROW)?;
+    check_table(arities, row, table)
+}
+
+fn check_pattern(arities: &[u16], pattern: &[u16]) -> Result<(), Refusal> {
+    check_size(pattern.len(), 256, PATTERN)?;
+    check_reading(arities, pattern, true, PATTERN)
+}
+
+pub fn build(arities: &[u16], row: &[u16], table: &mut [u16]) -> Result<(), Refusal> {
+    check_alphabet(arities)?;
+    check_size(row.len(), 16384, ROW)?;
+    if table.len() < row.len() {
+        return Err((6, row.len() as u64));
+    }
+    check_reading(arities, row, false, ROW)?;
+    fill(arities, row, table, 0);
+    Ok(())
+}
+
+/// Begin and end of each variable, if the pattern matches at p.
+fn match_at(row: &[u16], table: &[u16], pattern: &[u16], p: usize) -> Option<[(u16, u16); 16]> {
+    if row[p] != pattern[0] && (pattern[0] < 65280) {
+        return None;
+    }
+    let mut spans = [(0u16, 0u16); 16];
+    let mut j = p;
+    for &s in pattern {
+        let end = table[j] as usize;
+        if s == BLANK {
+            j = end;
+        } else if let Some(v) = variable(s) {
+            let (b, e) = spans[v];
+            if e == 0 {
+                spans[v] = (j as u16, end as u16);
+            } else if row[b as usize..e as usize] != row[j..end] {
+                return None;
+            }
+            j = end;
+        } else if row[j] == s {
+            j += 1;
+        } else {
+            return None;
+        }
+    }
+    Some(spans)
+}
+
+pub fn find(arities: &[u16], row: &[u16], table: &[u16], pattern: &[u16], out: &mut [u16]) -> Result<usize, Refusal> {
+    check_given(arities, row, table)?;
+    check_pattern(arities, pattern)?;
+    if out.len() < row.len() {
+        let count = (0..row.len()).filter(|&p| match_at(row, table, pattern, p).is_some()).count();
+        if count > out.len() {
+            return Err((19, count as u64));
+        }
+    }
+    let mut count = 0;
+    for p in 0..row.len() {
+        if match_at(row, table, pattern, p).is_some() {
+            out[count] = p as u16;
+            count += 1;
+        }
+    }
+    Ok(count)
+}
+
+pub fn variables(arities: &[u16], row: &[u16], table: &[u16], pattern: &[u16], position: usize, out: &mut [u16]) -> Result<bool, Refusal> {
+    check_given(arities, row, table)?;
+    check_pattern(arities, pattern)?;
+    if position >= row.len() {
+        return Err((17, position as u64));
+    }
+    if out.len() < 32 {
+        return Err((19, 32));
+    }
+    let Some(spans) = match_at(row, table, pattern, position) else {
+        return Ok(false);
+    };
+    for (place, (b, e)) in out.chunks_exact_mut(2).zip(spans) {
+        place[0] = b;
+        place[1] = e;
+    }
+    Ok(true)
+}
+
+pub fn replace(arities: &[u16], row: &mut [u16], table: &mut [u16], n: usize, replacement: &[u16], position: usize) -> Result<(usize, i32), Refusal> {
+    check_alphabet(arities)?;
+    check_size(n, 16384, ROW)?;
+    if row.len() < n || table.len() < n {
+        return Err((6, n as u64));
+    }
+    check_reading(arities, &row[..n], false, ROW)?;
+    check_table(arities, &row[..n], table)?;
+    check_size(replacement.len(), 16384, REPLACEMENT)?;
+    check_reading(arities, replacement, false, REPLACEMENT)?;
+    if position >= n {
+        return Err((17, position as u64));
+    }
+    let end = table[position] as usize;
+    let to = position + replacement.len();
+    let new = to + (n - end);
+    if new > 16384 || new > row.len() || new > table.len() {
+        return Err((18, new as u64));
+    }
+    row.copy_within(end..n, to);
+    row[position..to].copy_from_slice(replacement);
+    table.copy_within(end..n, to);
+    for e in &mut table[..position] {
+        if *e as usize >= end {
+            *e = (*e as usize - end + to) as u16;
+        }
+    }
+    for e in &mut table[to..new] {
+        *e = (*e as usize - end + to) as u16;
+    }
+    fill(arities, replacement, table, position);
+    if new < n {
+        row[new..n].fill(65535);
+        table[new..n].fill(0);
+    }
+    Ok((new, new as i32 - n as i32))
+}
+
+/// The length of the first tree of a list.
+fn tree_length(arities: &[u16], list: &[u16]) -> usize {
+    let mut need = 1;
+    for (i, &s) in list.iter().enumerate() {
+        if need == 0 {
+            return i;
+        }
+        need = need - 1 + arities[s as usize] as usize;
+    }
+    list.len()
+}
+
+/// The pattern's first tree against the row's first tree: how much of each it takes, if it fits.
+fn node<'a>(arities: &[u16], pattern: &[u16], rest: &'a [u16], bound: &mut [Option<&'a [u16]>; 16]) -> Option<(usize, usize)> {
+    let s = pattern[0];
+    if s == rest[0] {
+        let (p, r) = children(arities, arities[s as usize], &pattern[1..], &rest[1..], bound)?;
+        return Some((p + 1, r + 1));
+    }
+    if s == BLANK {
+        return Some((1, tree_length(arities, rest)));
+    }
+    let v = variable(s)?;
+    let tree = &rest[..tree_length(arities, rest)];
+    match bound[v] {
+        Some(first) if first != tree => None,
+        _ => {
+            bound[v] = Some(tree);
+            Some((1, tree.len()))
+        }
+    }
+}
+
+fn children<'a>(arities: &[u16], k: u16, pattern: &[u16], rest: &'a [u16], bound: &mut [Option<&'a [u16]>; 16]) -> Option<(usize, usize)> {
+    let (mut p, mut r) = (0, 0);
+    for _ in 0..k {
+        let (a, b) = node(arities, &pattern[p..], &rest[r..], bound)?;
+        p += a;
+        r += b;
+    }
+    Some((p, r))
+}
+
+pub fn plain_match(arities: &[u16], row: &[u16], pattern: &[u16], position: usize) -> Result<bool, Refusal> {
+    check_alphabet(arities)?;
+    check_size(row.len(), 16384, ROW)?;
+    check_reading(arities, row, false, ROW)?;
+    check_pattern(arities, pattern)?;
+    if position >= row.len() {
+        return Err((17, position as u64));
+    }
+    Ok(node(arities, pattern, &row[position..], &mut [None; 16]).is_some())
+}

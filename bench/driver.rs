@@ -1,0 +1,311 @@
+//! Times the library's calls beside the same calls in plain Rust and plain C, in one run, and prints one table.
+//! Usage: driver [quick] > table. Progress goes to standard error.
+
+mod baseline;
+
+use std::hint::black_box;
+use std::time::Instant;
+
+#[repr(C)]
+#[derive(Clone, Copy, Debug, PartialEq)]
+pub struct Answer {
+    refusal: u32,
+    change: i32,
+    place: u64,
+    count: u64,
+}
+
+type List = (*const u16, usize);
+
+macro_rules! calls {
+    ($($build:ident $find:ident $variables:ident $replace:ident $plain:ident)*) => { extern "C" { $(
+        fn $build(arities: *const u16, symbols: usize, row: *const u16, n: usize, table: *mut u16, room: usize) -> Answer;
+        fn $find(arities: *const u16, symbols: usize, row: *const u16, n: usize, table: *const u16, room: usize,
+            pattern: *const u16, m: usize, out: *mut u16, places: usize) -> Answer;
+        fn $variables(arities: *const u16, symbols: usize, row: *const u16, n: usize, table: *const u16, room: usize,
+            pattern: *const u16, m: usize, position: usize, out: *mut u16, places: usize) -> Answer;
+        fn $replace(arities: *const u16, symbols: usize, row: *mut u16, row_room: usize, table: *mut u16, room: usize,
+            n: usize, replacement: *const u16, m: usize, position: usize) -> Answer;
+        fn $plain(arities: *const u16, symbols: usize, row: *const u16, n: usize, pattern: *const u16, m: usize,
+            position: usize) -> Answer;
+    )* } };
+}
+calls! {
+    timed_build timed_find timed_variables timed_replace timed_plain_match
+    c_build c_find c_variables c_replace c_plain_match
+}
+
+fn list(xs: &[u16]) -> List {
+    (xs.as_ptr(), xs.len())
+}
+
+/// Who answers: the library, plain Rust, plain C.
+#[derive(Clone, Copy)]
+enum By {
+    Library,
+    Rust,
+    C,
+}
+
+const ALL: [By; 3] = [By::Library, By::Rust, By::C];
+
+fn answered(r: Result<(u64, i32), baseline::Refusal>) -> Answer {
+    match r {
+        Ok((count, change)) => Answer { refusal: 0, change, place: 0, count },
+        Err((refusal, place)) => Answer { refusal, change: 0, place, count: 0 },
+    }
+}
+
+fn build(by: By, arities: &[u16], row: &[u16], table: &mut [u16]) -> Answer {
+    let ((a, k), (w, n), (t, m)) = (list(arities), list(row), (table.as_mut_ptr(), table.len()));
+    match by {
+        By::Library => unsafe { timed_build(a, k, w, n, t, m) },
+        By::Rust => answered(baseline::build(arities, row, table).map(|()| (row.len() as u64, 0))),
+        By::C => unsafe { c_build(a, k, w, n, t, m) },
+    }
+}
+
+fn find(by: By, arities: &[u16], row: &[u16], table: &[u16], pattern: &[u16], out: &mut [u16]) -> Answer {
+    let ((a, k), (w, n), (t, m), (q, l), (o, p)) = (list(arities), list(row), list(table), list(pattern), (out.as_mut_ptr(), out.len()));
+    match by {
+        By::Library => unsafe { timed_find(a, k, w, n, t, m, q, l, o, p) },
+        By::Rust => answered(baseline::find(arities, row, table, pattern, out).map(|c| (c as u64, 0))),
+        By::C => unsafe { c_find(a, k, w, n, t, m, q, l, o, p) },
+    }
+}
+
+fn variables(by: By, arities: &[u16], row: &[u16], table: &[u16], pattern: &[u16], position: usize, out: &mut [u16]) -> Answer {
+    let ((a, k), (w, n), (t, m), (q, l), (o, p)) = (list(arities), list(row), list(table), list(pattern), (out.as_mut_ptr(), out.len()));
+    match by {
+        By::Library => unsafe { timed_variables(a, k, w, n, t, m, q, l, position, o, p) },
+        By::Rust => answered(baseline::variables(arities, row, table, pattern, position, out).map(|y| (y as u64, 0))),
+        By::C => unsafe { c_variables(a, k, w, n, t, m, q, l, position, o, p) },
+    }
+}
+
+fn replace(by: By, arities: &[u16], row: &mut [u16], table: &mut [u16], n: usize, new: &[u16], position: usize) -> Answer {
+    let ((a, k), (w, r), (t, m), (v, l)) = (list(arities), (row.as_mut_ptr(), row.len()), (table.as_mut_ptr(), table.len()), list(new));
+    match by {
+        By::Library => unsafe { timed_replace(a, k, w, r, t, m, n, v, l, position) },
+        By::Rust => answered(baseline::replace(arities, row, table, n, new, position).map(|(l, c)| (l as u64, c))),
+        By::C => unsafe { c_replace(a, k, w, r, t, m, n, v, l, position) },
+    }
+}
+
+fn plain_match(by: By, arities: &[u16], row: &[u16], pattern: &[u16], position: usize) -> Answer {
+    let ((a, k), (w, n), (q, l)) = (list(arities), list(row), list(pattern));
+    match by {
+        By::Library => unsafe { timed_plain_match(a, k, w, n, q, l, position) },
+        By::Rust => answered(baseline::plain_match(arities, row, pattern, position).map(|y| (y as u64, 0))),
+        By::C => unsafe { c_plain_match(a, k, w, n, q, l, position) },
+    }
+}
+
+// ---- rows
+
+/// A pseudo-random number, the same in every run.
+struct Random(u64);
+
+impl Random {
+    fn below(&mut self, n: usize) -> usize {
+        self.0 = self.0.wrapping_mul(6364136223846793005).wrapping_add(1442695040888963407);
+        ((self.0 >> 33) as usize) % n
+    }
+}
+
+/// Symbols of the alphabet: two leaves, then one symbol for each arity from 1 to 15.
+fn alphabet() -> Vec<u16> {
+    let mut a = vec![0, 0];
+    a.extend(1..=15);
+    a
+}
+
+const ONE: u16 = 2;
+const TWO: u16 = 3;
+const THREE: u16 = 4;
+const FIFTEEN: u16 = 16;
+
+/// A row of exactly n symbols: `next` chooses the arity at each place from what is left and what is open; a filler of
+/// arity 1 evens out the length.
+fn grown(n: usize, mut next: impl FnMut(usize, usize) -> u16) -> Vec<u16> {
+    let mut row = Vec::with_capacity(n);
+    let mut open = 1;
+    while row.len() < n {
+        let left = n - row.len();
+        let mut s = next(left, open);
+        let arity = |s: u16| if s < 2 { 0 } else { s as usize - 1 };
+        if open - 1 + arity(s) > left - 1 {
+            s = if open < left { ONE } else { 0 };
+        }
+        if open - 1 + arity(s) == 0 && left > 1 {
+            s = if left > 2 { TWO } else { ONE };
+        }
+        open = open - 1 + arity(s);
+        row.push(s);
+    }
+    row
+}
+
+fn full_binary(row: &mut Vec<u16>, n: usize) {
+    if n < 3 {
+        row.extend(std::iter::repeat(ONE).take(n - 1));
+        row.push(0);
+        return;
+    }
+    row.push(TWO);
+    full_binary(row, (n - 1) / 2);
+    full_binary(row, n - 1 - (n - 1) / 2);
+}
+
+fn shape(name: &str, n: usize) -> Vec<u16> {
+    let mut random = Random(2026);
+    match name {
+        "chain" => grown(n, |_, _| ONE),
+        "left comb" => grown(n, |left, open| if open < left / 2 { TWO } else { 0 }),
+        "full binary" => {
+            let mut row = Vec::new();
+            full_binary(&mut row, n);
+            row
+        }
+        "15-ary" => grown(n, |_, open| if open < 2 { FIFTEEN } else { 0 }),
+        "random" => grown(n, |_, _| [0, 1, 0, ONE, TWO, THREE, 5][random.below(7)]),
+        // every second child is the same small subtree
+        _ => {
+            let small = [THREE, 0, 1, TWO, 0, 0];
+            let mut at = 0;
+            grown(n, |_, open| {
+                at += 1;
+                if open < 3 { THREE } else { small[at % small.len()] }
+            })
+        }
+    }
+}
+
+const SHAPES: [&str; 6] = ["chain", "left comb", "full binary", "15-ary", "random", "equal subtrees"];
+
+fn table_of(row: &[u16]) -> Vec<u16> {
+    let mut table = vec![0; row.len()];
+    assert!(baseline::build(&alphabet(), row, &mut table).is_ok(), "a row of {} symbols is no row", row.len());
+    table
+}
+
+// ---- timing
+
+fn median(mut xs: Vec<f64>) -> f64 {
+    xs.sort_by(f64::total_cmp);
+    xs[xs.len() / 2]
+}
+
+/// Nanoseconds of one call by each of the three, medians over interleaved rounds.
+fn time(rounds: usize, mut call: impl FnMut(By) -> Answer) -> [f64; 3] {
+    let said = call(By::Library);
+    for by in ALL {
+        assert_eq!(said, call(by), "the three do not agree");
+    }
+    let began = Instant::now();
+    call(By::Library);
+    let batch = (200_000 / began.elapsed().as_nanos().max(20)).clamp(1, 4_000) as usize;
+    let mut times: [Vec<f64>; 3] = Default::default();
+    for _ in 0..rounds {
+        for (by, times) in ALL.into_iter().zip(&mut times) {
+            let began = Instant::now();
+            for _ in 0..batch {
+                black_box(call(black_box(by)));
+            }
+            times.push(began.elapsed().as_nanos() as f64 / batch as f64);
+        }
+    }
+    times.map(median)
+}
+
+/// One line of the table: call, what it is called on, row shape, length, and the three times.
+fn report(call: &str, on: &str, shape: &str, n: usize, [library, rust, c]: [f64; 3]) {
+    eprintln!("{call}, {on}, {shape}, {n}");
+    println!("{call}\t{on}\t{shape}\t{n}\t{library:.0}\t{rust:.0}\t{c:.0}\t{:.2}\t{:.2}", library / rust, library / c);
+}
+
+// ---- what is called
+
+fn patterns(row: &[u16], table: &[u16]) -> Vec<(&'static str, Vec<u16>)> {
+    let root = row[0];
+    let arity = alphabet()[root as usize] as usize;
+    let mut with_root = vec![root];
+    with_root.extend(std::iter::repeat(65280).take(arity));
+    let stretch = (0..row.len()).find(|&p| table[p] as usize - p >= row.len().min(200) / 2 && table[p] as usize - p <= 256);
+    let mut all = vec![
+        ("rare root", std::iter::once(15).chain(std::iter::repeat(65535).take(14)).collect()),
+        ("common root", with_root),
+        ("bare S", vec![65535]),
+    ];
+    if let Some(p) = stretch {
+        all.push(("long fixed stretch", row[p..table[p] as usize].to_vec()));
+    }
+    all
+}
+
+fn main() {
+    let quick = std::env::args().any(|a| a == "quick");
+    let rounds = if quick { 15 } else { 101 };
+    let sizes: &[usize] = if quick { &[4096, 16384] } else { &[16, 256, 4096, 16384] };
+    let arities = alphabet();
+    println!("call\ton\trow\tlength\tlibrary ns\tRust ns\tC ns\tlibrary/Rust\tlibrary/C");
+    for &n in sizes {
+        for name in SHAPES {
+            let row = shape(name, n);
+            let right = table_of(&row);
+            let mut table = right.clone();
+            report("build", "accepted", name, n, time(rounds, |by| build(by, &arities, &row, &mut table)));
+            let mut out = vec![0; n];
+            for (on, pattern) in patterns(&row, &right) {
+                report("find", on, name, n, time(rounds, |by| find(by, &arities, &row, &right, &pattern, &mut out)));
+            }
+            let repeated = [TWO, 65280, 65280];
+            report("find", "repeated variables", name, n, time(rounds, |by| find(by, &arities, &row, &right, &repeated, &mut out)));
+            let mut spans = [0; 32];
+            report("variables", "bare X0", name, n, time(rounds, |by| variables(by, &arities, &row, &right, &[65280], 0, &mut spans)));
+            report("plain", "bare X0", name, n, time(rounds, |by| plain_match(by, &arities, &row, &[65280], 0)));
+            replacements(rounds, name, &row, &right);
+            refusals(rounds, name, &row, &right);
+        }
+    }
+}
+
+/// A replacement and putting back, together: each leaves the row as it was.
+fn replacements(rounds: usize, name: &str, row: &[u16], right: &[u16]) {
+    let arities = alphabet();
+    let n = row.len();
+    let leaves: Vec<usize> = (0..n).filter(|&p| row[p] < 2).collect();
+    for (place, p) in [("front", leaves[0]), ("middle", leaves[leaves.len() / 2]), ("end", leaves[leaves.len() - 1])] {
+        for (on, new) in [("same size", vec![1]), ("grow and shrink", vec![ONE, ONE, TWO, 0, 1])] {
+            let mut r = row.to_vec();
+            let mut t = right.to_vec();
+            r.resize(n + 8, 0);
+            t.resize(n + 8, 0);
+            if n + new.len() > 16384 + 1 {
+                continue;
+            }
+            let old = row[p];
+            let times = time(rounds, |by| {
+                let there = replace(by, &arities, &mut r, &mut t, n, &new, p);
+                replace(by, &arities, &mut r, &mut t, there.count as usize, &[old], p)
+            });
+            report("replace and back", &format!("{on}, {place}"), name, n, times);
+        }
+    }
+}
+
+/// Refused input: a bad last number, and a stale first and last entry.
+fn refusals(rounds: usize, name: &str, row: &[u16], right: &[u16]) {
+    let arities = alphabet();
+    let n = row.len();
+    let mut bad = row.to_vec();
+    bad[n - 1] = 999;
+    let mut table = right.to_vec();
+    let mut out = vec![0; n];
+    report("build", "bad last number", name, n, time(rounds, |by| build(by, &arities, &bad, &mut table)));
+    for (on, p) in [("stale first entry", 0), ("stale last entry", n - 1)] {
+        let mut stale = right.to_vec();
+        stale[p] ^= 1;
+        report("find", on, name, n, time(rounds, |by| find(by, &arities, row, &stale, &[65535], &mut out)));
+    }
+}
