@@ -1,0 +1,139 @@
+-- The walk finds exactly the matches, and its marks are those of the only trees that the variables can stand for.
+-- Assumes nothing.
+use Prim.Native.Nat.{ℕ, zero, suc, _+_, _-_, _≤_, _<_}
+use mathlib.Core.Path.{_≡_, refl, sym, ap, _∙_, subst}
+use mathlib.Core.Logic.{_↔_}
+use mathlib.Core.List.{List, [], _++_, append-nil}
+use mathlib.Core.Bool.{true}
+use native.Mathlib.Omega.{arith}
+use lib.ListN.{getD, length}
+use Rattle.rows.specs.Tree.{Forest.none, Tree, single, size, count, prefix, Ranked, subtrees, subtreeAt}
+use Rattle.rows.specs.Parse.{parse}
+use Rattle.rows.specs.Row.{verdict, allowed, orElse, sized, reading}
+use Rattle.rows.specs.declared.Leaves.the-variants.{Blanks}
+use Rattle.rows.specs.declared.Verdict.{Verdict}
+use Rattle.rows.specs.declared.Verdict.the-variants.{Whole, Faulty}
+use Rattle.rows.proofs.Parse.{prefix-parse}
+use Rattle.rows.proofs.Accept.{count-parse, ranked-parse, lone}
+use Rattle.rows.proofs.Scan.{sized-fits}
+use Rattle.tables.proofs.Given.{right-bounds}
+use Rattle.patterns.specs.Pattern.{Matches}
+use Rattle.patterns.specs.Answers.{treeOf, MatchesAt, Checked}
+use Rattle.patterns.specs.Walk.{Outcome, Outcome.misses, Outcome.reaches, walk, unmarked, through, comesThrough, Ends, MarksIn}
+use Rattle.patterns.proofs.Standing.{Planted, planted-at, planted-once, stands-inside, stands-end}
+use Rattle.patterns.proofs.Fits.{Fits, fits-matches, matches-fits}
+use Rattle.patterns.proofs.Marks.{unmarked-zero, marks-none}
+use Rattle.patterns.proofs.Walks.{Agrees, complete, sound}
+
+both-whole : (a b : Verdict) → orElse a b ≡ Whole → (a ≡ Whole) × (b ≡ Whole)
+both-whole Whole b e = (refl, e)
+both-whole (Faulty f) b e = let z : _≡_ {A = ℕ} 0 1 = cc in absurd (omega arith)
+
+-- what an accepted pattern is
+pub record PatternOf (A q : List ℕ) : Type 0 where
+  pub some : 0 < length q
+  pub most : length q ≤ 256
+  pub whole : verdict A (allowed Blanks A) 1 0 q ≡ Whole
+  pub tree : parse A q ≡ single (treeOf A q)
+  pub ranked : Ranked A (allowed Blanks A) (single (treeOf A q))
+  pub reads : prefix (single (treeOf A q)) ≡ q
+
+pub pattern-of : (A q : List ℕ) → reading A Blanks 256 q ≡ Whole → PatternOf A q
+unfolding reading subtrees
+pattern-of A q e =
+    let both = both-whole (sized (length q) 256) (verdict A (allowed Blanks A) 1 0 q) e in
+    let fits = sized-fits (length q) 256 (both .0) in
+    let one = lone (parse A q) (count-parse A (allowed Blanks A) q 1 0 (both .1)) in
+    let tree : parse A q ≡ single (treeOf A q) = one .1 ∙ ap (λ f. single (subtreeAt f 0)) (sym (one .1)) in
+    record {
+      some = fits .0;
+      most = fits .1;
+      whole = both .1;
+      tree = tree;
+      ranked = subst (Ranked A (allowed Blanks A)) tree (ranked-parse A (allowed Blanks A) q 1 0 (both .1));
+      reads = ap prefix (sym tree) ∙ prefix-parse A q;
+    }
+
+came : (o : Outcome) → through o ≡ true → (j : ℕ) × (ms : List ℕ) × (o ≡ reaches j ms)
+came (misses j) q = let z : _≡_ {A = ℕ} 0 1 = cc in absurd (omega arith)
+came (reaches j ms) q = (j, ms, refl)
+
+module _ (A w e q : List ℕ) (c : Checked A w e q) where
+  -- a right table has what the code needs of it
+  pub checked-ends : Ends w e
+  checked-ends =
+      record {
+        most = c .row .sized .most;
+        long = c .row .sized .fits;
+        past = λ p h. right-bounds A w e (c .row) p h .0;
+        within = λ p h. right-bounds A w e (c .row) p h .1;
+      }
+
+  pub checked-pattern : PatternOf A q
+  checked-pattern = pattern-of A q (c .pattern)
+
+  module _ (p : ℕ) (inside : p < length w) where
+    abbrev pub under : Tree
+    under = subtreeAt (parse A w) p
+
+    -- for some trees of the variables: the walk comes through, with the marks of these trees
+    pub walk-comes : (v : ℕ → Tree) → Fits v (single (treeOf A q)) (single under)
+        → (j : ℕ) × (ms : List ℕ) × (walk w e q p unmarked ≡ reaches j ms) × Agrees A w e v ms
+    unfolding walk
+    walk-comes v x =
+        let h = planted-at A w e (c .row) p inside in
+        let P = checked-pattern in
+        let r = complete A w e (c .few) (single (treeOf A q)) v (single under) p unmarked [] (P .ranked) (h .ranked) (h .stands)
+        (record { all = λ i a z. absurd (omega (arith, z, unmarked-zero i)) }) x in
+        (p + size (single under), r .0, ap (λ (u : List ℕ). walk w e u p unmarked) (sym (append-nil (prefix (single (treeOf A q))) ∙ P .reads)) ∙ r .1, r .2)
+
+    module _ (j : ℕ) (ms : List ℕ) (z : walk w e q p unmarked ≡ reaches j ms) where
+      shown : MarksIn (length w) ms × ((v : ℕ → Tree) → Agrees A w e v ms → Fits v (single (treeOf A q)) (single under))
+      unfolding walk count size
+      shown =
+          let h = planted-at A w e (c .row) p inside in
+          let P = checked-pattern in
+          let r = sound A w e (c .few) (single (treeOf A q)) (single under) p unmarked [] j ms (P .ranked) (h .ranked) refl (h .stands) (marks-none p)
+          (ap (λ (u : List ℕ). walk w e u p unmarked) (append-nil (prefix (single (treeOf A q))) ∙ P .reads) ∙ z) in
+          let same : r .0 ≡ ms = cc (r .2) in
+          let n : p + (size (under .children) + 0 + 1) ≤ length w = omega (arith, stands-end w e p _ _ none (h .stands), checked-ends .within p inside) in
+          (record { many = ap length (sym same) ∙ r .1 .many; all = λ i. omega (arith, ap (λ (u : List ℕ). getD u i 0) same, r .1 .all i) }, r .3)
+
+      -- the walk has marked subtrees of the row
+      pub walk-marks : MarksIn (length w) ms
+      walk-marks = shown .0
+
+      -- the trees at the marks
+      abbrev at-marks : ℕ → Tree
+      at-marks i = subtreeAt (parse A w) (getD ms i 0 - 1)
+
+      -- and the pattern fits for them
+      pub walk-fits : Fits at-marks (single (treeOf A q)) (single under)
+      walk-fits = shown .1 at-marks (record { all = agrees })
+        where
+          agrees : (i a : ℕ) → getD ms i 0 ≡ suc a → Planted A w e a (at-marks i)
+          agrees i a y =
+              let same : a ≡ getD ms i 0 - 1 = omega arith in
+              subst (λ (n : ℕ). Planted A w e a (subtreeAt (parse A w) n)) same (planted-at A w e (c .row) a (omega (arith, walk-marks .all i)))
+
+      -- NO OTHER TREE WOULD DO: whatever choice turns the pattern into the subtree, a marked variable stands for the
+      -- subtree at its mark
+      pub only : (m : MatchesAt A w q p) (i a : ℕ) → getD ms i 0 ≡ suc a → m .choice .forVariable i ≡ subtreeAt (parse A w) a
+      only m i a y =
+          let c′ = walk-comes (m .choice .forVariable) (matches-fits (treeOf A q) under m) in
+          let same : ms ≡ c′ .1 = cc (z, c′ .2) in
+          planted-once A w e a _ _ (c′ .3 .all i a (ap (λ (u : List ℕ). getD u i 0) (sym same) ∙ y))
+          (planted-at A w e (c .row) a (omega (arith, y, walk-marks .all i)))
+
+      pub walk-matches : MatchesAt A w q p
+      walk-matches = fits-matches at-marks (treeOf A q) under walk-fits
+
+    -- THE WALK IS RIGHT: it comes through exactly if some choice turns the pattern into the subtree
+    pub right : (comesThrough w e q p ≡ true) ↔ MatchesAt A w q p
+    right =
+        (λ y. (let r = came (walk w e q p unmarked) y in walk-matches (r .0) (r .1) (r .2)),
+        λ m. ap through (walk-comes (m .choice .forVariable) (matches-fits (treeOf A q) under m) .2))
+
+    -- where it misses, there is no match
+    pub missed : (k : ℕ) → walk w e q p unmarked ≡ misses k → MatchesAt A w q p → ⊥
+    missed k z m = let y = right .1 m in let x : _≡_ {A = ℕ} 0 1 = cc (ap through z) in omega arith

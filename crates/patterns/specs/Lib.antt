@@ -1,0 +1,3 @@
+pub mod Pattern
+pub mod Answers
+pub mod Walk
