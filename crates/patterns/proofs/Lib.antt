@@ -5,3 +5,5 @@ pub mod Fronts
 pub mod Marks
 pub mod Walks
 pub mod Matching
+pub mod Listing
+pub mod Facing
