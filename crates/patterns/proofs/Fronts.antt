@@ -1,6 +1,6 @@
 -- How many symbols at the front of two lists are the same: all of them exactly if the lists are equal.
 -- Assumes nothing.
-use Prim.Native.Nat.{ℕ, suc, _+_, _-_, _≤_, _<_}
+use Prim.Native.Nat.{ℕ, zero, suc, _+_, _-_, _≤_, _<_}
 use mathlib.Core.Path.{_≡_, refl, sym, ap, _∙_}
 use mathlib.Core.List.{List, [], _∷_}
 use mathlib.Core.Bool.{Bool, true, false}
@@ -28,6 +28,17 @@ front-all (x ∷ xs) (y ∷ ys) n a b q = go (eqb x y) refl q (front-all xs ys (
     go : (c : Bool) → eqb x y ≡ c → pick c (suc (sameFront xs ys)) 0 ≡ n → (sameFront xs ys ≡ n - 1 → xs ≡ ys) → x ∷ xs ≡ y ∷ ys
     go true p r ih = cc (eqb-true x y p, ih (omega arith))
     go false p r ih = absurd (omega arith)
+
+pub front-most : (n : ℕ) (l ys : List ℕ) → sameFront (take n l) ys ≤ n
+unfolding sameFront
+front-most zero l ys = omega arith
+front-most (suc n) [] ys = omega arith
+front-most (suc n) (x ∷ l) [] = omega arith
+front-most (suc n) (x ∷ l) (y ∷ ys) = go (eqb x y) (front-most n l ys)
+  where
+    go : (c : Bool) → sameFront (take n l) ys ≤ n → pick c (suc (sameFront (take n l) ys)) 0 ≤ suc n
+    go true h = omega arith
+    go false h = omega arith
 
 -- n symbols of the row, from place i of the n on
 unfoldable pub run : List ℕ → ℕ → ℕ → ℕ → List ℕ

@@ -5,7 +5,7 @@ use mathlib.Core.Path.{_≡_, refl, _∙_}
 use mathlib.Core.List.{List}
 use mathlib.Core.Bool.{Bool, true, false}
 use native.Mathlib.Omega.{arith}
-use borrow.Author.Tests.{lt-ltb, ne-eqb, eqb-true, ltb-true, ltb-false}
+use borrow.Author.Tests.{lt-ltb, eq-eqb, ne-eqb, eqb-true, ltb-true, ltb-false}
 use lib.Dec.{ltb, eqb}
 use lib.ListN.{length, getD, List·getD-eq-default}
 use Rattle.rows.specs.Tree.{Forest, Forest.none, Forest.grow, count, Ranked}
@@ -31,6 +31,27 @@ kind s = go (eqb s 65535) (ltb s 65280) (ltb s 65296) refl refl refl
     go false true c p q r = tt
     go false false true p q r = let l : 65280 ≤ s = ltb-false s 65280 q in let m : s < 65296 = ltb-true s 65296 r in (l, omega arith)
     go false false false p q r = tt
+
+-- the tests of the code
+pub variable-from : (s : ℕ) → isVariable s ≡ true → 65280 ≤ s
+variable-from s e = go (ltb s 65280) refl e
+  where
+    go : (b : Bool) → ltb s 65280 ≡ b → pick b false (ltb s 65296) ≡ true → 65280 ≤ s
+    go true p e = let z : _≡_ {A = ℕ} 0 1 = cc in absurd (omega arith)
+    go false p e = ltb-false s 65280 p
+
+module _ (s : ℕ) where
+  pub leaf-blank : s ≡ 65535 → Blank ≡ leaf s
+  unfolding leaf
+  leaf-blank e = rw (eq-eqb s 65535 e) refl
+
+  pub leaf-variable : (s ≡ 65535 → ⊥) → isVariable s ≡ true → Variable (s - 65280) ≡ leaf s
+  unfolding leaf
+  leaf-variable n e = rw (ne-eqb s 65535 n, e) refl
+
+  pub leaf-plain : (s ≡ 65535 → ⊥) → isVariable s ≡ false → Plain ≡ leaf s
+  unfolding leaf
+  leaf-plain n e = rw (ne-eqb s 65535 n, e) refl
 
 -- a symbol of an alphabet is plain
 pub plain-symbol : (s : ℕ) → s < 65280 → leaf s ≡ Plain

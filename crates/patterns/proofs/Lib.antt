@@ -7,3 +7,6 @@ pub mod Walks
 pub mod Matching
 pub mod Listing
 pub mod Facing
+pub mod Going
+pub mod Writing
+pub mod Steps

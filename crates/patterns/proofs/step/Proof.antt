@@ -1,0 +1,101 @@
+-- `patterns::step` meets its contract, by the kind of the number.
+-- Assumes nothing.
+use Prim.Native.Nat.{_+_}
+use mathlib.Core.Path.{sym, _∙_}
+use native.Mathlib.Omega.{arith}
+use lib.ListN.{getD}
+use Rattle.patterns.specs.Walk.{Outcome.misses, Outcome.reaches}
+use Rattle.patterns.proofs.Steps.{answers, answers-at, variable-small, steps-same, steps-plain, steps-blank, steps-variable}
+use borrow.Author.Needs.{needs}
+use Rattle.patterns.proofs.step.Statement.{statement}
+use Rattle.patterns.proofs.step.Tie as tie
+
+mul-same : tie.Need-mul-same
+mul-same c = search needs
+
+shared-slice-read-same : tie.Need-shared-slice-read-same
+shared-slice-read-same c = search needs
+
+same-requires : tie.Need-same-requires
+same-requires c κs = search needs
+
+add-t12 : tie.Need-add-t12
+add-t12 c = search needs
+
+returns : tie.Need-returns
+returns c =
+    let g = c .before .before .before .before .before .args in
+    answers _ (reaches (g .j + 1) (g .marks .now)) (g .marks .now)
+    (steps-same (g .row .now) (g .table .now) (g .s) (g .j) (g .marks .now) (sym (c .before .same .ensures) ∙ c .if1 .taken))
+
+leaf-of-requires : tie.Need-leaf-of-requires
+leaf-of-requires c κs = search needs
+
+enum-told : tie.Need-enum-told
+enum-told c = search needs
+
+enum-told-2 : tie.Need-enum-told-2
+enum-told-2 c = search needs
+
+mul-t14 : tie.Need-mul-t14
+mul-t14 c = search needs
+
+shared-slice-read-t16 : tie.Need-shared-slice-read-t16
+shared-slice-read-t16 c = search needs
+
+cast-t17 : tie.Need-cast-t17
+cast-t17 c = omega (arith, c .shared-slice-known4 .given (c .before .before .before .before .before .before .before .before .before .args .j))
+
+enum-known-kind : tie.Need-enum-known-kind
+enum-known-kind c = search needs
+
+meet-requires : tie.Need-meet-requires
+meet-requires c κs =
+    let s = c .before .before .before .before .before .before .before .before .before .before in
+    let l = c .before .before .before .before in
+    (s .pre .0, s .pre .1, variable-small (s .args .s) _ (sym (l .leaf-of .ensures) ∙ c .before .before .kind .given .1), s .pre .2)
+
+returns-2 : tie.Need-returns-2
+returns-2 c =
+    let g = c .before .before .before .before .before .before .before .before .args in
+    answers _ (misses (g .j)) (g .marks .now)
+    (steps-plain (g .row .now) (g .table .now) (g .s) (g .j) (g .marks .now) (sym (c .before .before .before .before .same .ensures) ∙ c .before .before .before .if1 .left)
+    (sym (c .before .before .leaf-of .ensures) ∙ c .enum-told .given .1))
+
+returns-3 : tie.Need-returns-3
+returns-3 c =
+    let g = c .before .before .before .before .before .before .before .before .before .args in
+    let l = c .before .before .before in
+    answers _ (reaches (getD (g .table .now) (g .j) 0) (g .marks .now)) (g .marks .now)
+    (steps-blank (g .row .now) (g .table .now) (g .s) (g .j) (g .marks .now) (sym (l .before .before .same .ensures) ∙ l .before .if1 .left)
+    (sym (l .leaf-of .ensures) ∙ c .before .enum-told2 .given .1))
+
+returns-4 : tie.Need-returns-4
+returns-4 c =
+    let g = c .before .before .before .before .before .before .before .before .before .before .before .args in
+    let l = c .before .before .before .before .before in
+    answers-at _ _ (g .marks .now) (c .meet .result) _
+    (steps-variable (g .row .now) (g .table .now) (g .s) (g .j) (g .marks .now) (sym (l .before .before .same .ensures) ∙ l .before .if1 .left) _
+    (sym (l .leaf-of .ensures) ∙ c .before .before .before .kind .given .1))
+    (c .meet .ensures)
+
+pub step-spec : {M : Type 1} → statement M
+step-spec =
+    tie.close
+    (tie.spec
+    mul-same
+    shared-slice-read-same
+    same-requires
+    add-t12
+    returns
+    leaf-of-requires
+    enum-told
+    enum-told-2
+    mul-t14
+    shared-slice-read-t16
+    cast-t17
+    enum-known-kind
+    meet-requires
+    returns-2
+    returns-3
+    returns-4)
