@@ -14,11 +14,12 @@ use lib.Seq.{getD-set-same, getD-set-other}
 use Rattle.rows.specs.Tree.{Forest, Forest.none, Forest.grow, Tree, single, size, count, prefix, Ranked, subtreeAt}
 use Rattle.rows.specs.Parse.{parse, table}
 use Rattle.rows.specs.Row.{pick, symbol, allowed}
+use Rattle.rows.specs.Buffers.{written}
 use Rattle.rows.specs.declared.Leaves.the-variants.{Blanks, Symbols}
 use Rattle.rows.proofs.Accept.{enough}
 use Rattle.tables.proofs.Given.{right-entry}
 use Rattle.patterns.specs.Pattern.{leaf}
-use Rattle.patterns.specs.Answers.{treeOf, faced, isLeaf, span, spansBelow, spans, Checked}
+use Rattle.patterns.specs.Answers.{treeOf, faced, isLeaf, span, spansBelow, spans, Checked, Binds}
 use Rattle.patterns.specs.Walk.{sameSymbol, agreeing, Outcome, Outcome.misses, Outcome.reaches, meets, takes, steps, onward, walk, unmarked, markBegin, markEnd, markSpans, MarksIn}
 use Rattle.patterns.specs.declared.Leaf.{Leaf}
 use Rattle.patterns.specs.declared.Leaf.the-variants.{Plain, Blank, Variable}
@@ -26,7 +27,7 @@ use Rattle.patterns.proofs.Leaves.{Kind, kind, plain-symbol, leaf-alone
 use Rattle.patterns.proofs.Standing.{Stands, planted-at, stands-end, stands-children, stands-siblings}
 use Rattle.patterns.proofs.Fits.{Fits, FitsLeaf}
 use Rattle.patterns.proofs.Marks.{picks, unmarked-zero, Keeps, keeps-steps, kept}
-use Rattle.patterns.proofs.Matching.{checked-pattern, under, walk-marks, walk-fits}
+use Rattle.patterns.proofs.Matching.{checked-pattern, walk-marks, walk-fits, walk-matches, missed}
 
 -- the row positions at which a walk meets the numbers of the pattern
 abbrev past : List ℕ → ℕ → Leaf → ℕ
@@ -233,3 +234,20 @@ module _ (A w e q : List ℕ) (c : Checked A w e q) (p : ℕ) (inside : p < leng
         (ap (λ (k : ℕ). markBegin (getD ms n 0) ∷ k ∷ []) (mark-end (getD ms n 0) (walk-marks A w e q c p inside j ms z .all n))
         ∙ ap (λ (m : ℕ). markBegin m ∷ markEnd (table A w) m ∷ []) (mark-is n (omega arith))
         ∙ sym (span-seat (table A w) n q facing))
+
+-- what the variables call answers
+pub binds-none : (w e q : List ℕ) (p : ℕ) (y : List ℕ) (k : ℕ) → p < length w → walk w e q p unmarked ≡ misses k
+    → (A : List ℕ) → Checked A w e q → Binds A w q p y false y
+binds-none w e q p y k inside z A c =
+    record {
+      answer = (λ f. (let x : _≡_ {A = ℕ} 0 1 = cc in absurd (omega arith)), λ m. absurd (missed A w e q c p inside k z m));
+      buffer = refl;
+    }
+
+pub binds-some : (w e q : List ℕ) (p : ℕ) (y y′ : List ℕ) (j : ℕ) (ms : List ℕ) → p < length w → walk w e q p unmarked ≡ reaches j ms
+    → y′ ≡ written y 0 (markSpans e ms 16) → (A : List ℕ) → Checked A w e q → Binds A w q p y true y′
+binds-some w e q p y y′ j ms inside z b A c =
+    record {
+      answer = (λ f. walk-matches A w e q c p inside j ms z, λ m. refl);
+      buffer = b ∙ ap (written y 0) (mark-spans A w e q c p inside j ms z 16 (omega arith));
+    }

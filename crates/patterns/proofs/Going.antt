@@ -151,6 +151,9 @@ module _ (w e q : List ℕ) (p : ℕ) where
             ahead = λ A c. g A c .2;
           }
 
+      pub walking-stops : (x : ℕ) → steps w e (getD q k 0) j ms ≡ misses x → walk w e q p unmarked ≡ misses x
+      walking-stops x z = walk-on (misses x) z
+
       -- the step is the code's answer
       module _ (r : Stepped) (ms′ : List ℕ) (a : Answers (steps w e (getD q k 0) j ms) ms r ms′) where
         pub walking-next : (n : ℕ) → r ≡ To n → Walking w e q p ms′ n (k + 1)
@@ -164,5 +167,5 @@ module _ (w e q : List ℕ) (p : ℕ) where
         walking-miss x z = go (steps w e (getD q k 0) j ms) refl (sym (a .answer) ∙ z)
           where
             go : (o : Outcome) → steps w e (getD q k 0) j ms ≡ o → stepped o ≡ Miss x → walk w e q p unmarked ≡ misses x
-            go (misses y) t z = let same : y ≡ x = cc in walk-on (misses y) t ∙ ap misses same
+            go (misses y) t z = let same : y ≡ x = cc in walking-stops x (t ∙ ap misses same)
             go (reaches n ms″) t z = let x : _≡_ {A = ℕ} 0 1 = cc in absurd (omega arith)

@@ -10,3 +10,4 @@ pub mod Facing
 pub mod Going
 pub mod Writing
 pub mod Steps
+pub mod Searching

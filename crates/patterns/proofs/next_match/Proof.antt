@@ -1,21 +1,46 @@
+-- `patterns::next_match` meets its contract. The outer invariant: from `from` up to p there is no match. The inner one: the
+-- walk that is left from pattern place k decides the walk from p. A mismatch takes the outer loop's step, so p is among
+-- what the inner loop changes.
+-- Assumes nothing.
+use Prim.Native.Nat.{ℕ, _-_, _+_}
+use mathlib.Core.Logic.{⊎-elim}
+use mathlib.Core.List.{[], _∷_}
+use denote.Enum.Declared.{tagOf}
+use types.Run.{OneOf}
+use Rattle.patterns.specs.declared.Leaf.{Leaf}
+use Rattle.patterns.proofs.Leaf.{the-type}
+use Rattle.patterns.specs.declared.Leaf.the-variants.{Plain}
+use mathlib.Core.Path.{_≡_, refl, sym, ap, _∙_, subst}
+use native.Mathlib.Omega.{arith}
+use lib.ListN.{length, getD}
+use Rattle.patterns.proofs.Matching.{checked-ends, checked-pattern}
+use Rattle.patterns.proofs.Going.{Walking, walking-inside, walking-next, walking-miss, walking-end}
+use Rattle.patterns.proofs.Searching.{next-bare, Passed, passed-none, passed-more, next-here, next-none, root-same, root-other}
 use borrow.Author.Needs.{needs}
 use Rattle.patterns.proofs.next_match.Statement.{statement}
 use Rattle.patterns.proofs.next_match.Tie as tie
 
+-- a number whose tag is that of S or of a variable is not plain
+told-apart : (l : Leaf) → l ≡ Plain → OneOf (1 ∷ 2 ∷ []) (tagOf the-type l) → ⊥
+told-apart l z t =
+    ⊎-elim (λ (q : tagOf the-type l ≡ 1). (let x : _≡_ {A = ℕ} 0 1 = ap (tagOf the-type) (sym z) ∙ q in omega arith))
+    (λ (q : tagOf the-type l ≡ 2). (let x : _≡_ {A = ℕ} 0 2 = ap (tagOf the-type) (sym z) ∙ q in omega arith)) t
+
 abbrev Inv-loop : tie.InvT-loop
-Inv-loop row table pattern from root p₀ marks₀ j₀ k₀ p-end k-end p marks j k = ?
+Inv-loop row table pattern from root p₀ marks₀ j₀ k₀ p-end k-end p marks j k =
+    (p ≡ p₀) × (k-end ≡ length pattern) × Walking row table pattern p₀ marks j k
 
 abbrev μ-loop : tie.MeasureT-loop
-μ-loop row table pattern from root p₀ marks₀ j₀ k₀ p-end k-end p marks j k = ?
+μ-loop row table pattern from root p₀ marks₀ j₀ k₀ p-end k-end p marks j k = length pattern - k
 
 abbrev Inv-positions : tie.InvT-positions
-Inv-positions row table pattern from root p₀ p-end p = ?
+Inv-positions row table pattern from root p₀ p-end p = (p-end ≡ length row) × Passed row table pattern from p
 
 abbrev μ-positions : tie.MeasureT-positions
-μ-positions row table pattern from root p₀ p-end p = ?
+μ-positions row table pattern from root p₀ p-end p = length row - p
 
 shared-slice-read-root : tie.Need-shared-slice-read-root Inv-loop μ-loop Inv-positions μ-positions
-shared-slice-read-root c = search needs
+shared-slice-read-root c = let s = c .before .before .before .before in let g = s .args in checked-pattern (s .pre .0 .0) (g .row .now) (g .table .now) (g .pattern .now) (s .pre .0 .1) .some
 
 leaf-of-requires : tie.Need-leaf-of-requires Inv-loop μ-loop Inv-positions μ-positions
 leaf-of-requires c κs = search needs
@@ -24,10 +49,14 @@ enum-told : tie.Need-enum-told Inv-loop μ-loop Inv-positions μ-positions
 enum-told c = search needs
 
 returns : tie.Need-returns Inv-loop μ-loop Inv-positions μ-positions
-returns c = ?
+returns c =
+    let s = c .before .before .before .before .before .before in let g = s .args in
+    next-bare (g .row .now) (g .table .now) (g .pattern .now) (g .from) (s .pre .1) (λ z. told-apart (c .before .leaf-of .result) (c .before .leaf-of .ensures ∙ z) (c .match .keys2))
 
 positions-holds : tie.Need-positions-holds Inv-loop μ-loop Inv-positions μ-positions
-positions-holds c = ?
+positions-holds c =
+    let s = c .before .before .before .before .before .before .before in let g = s .args in
+    (refl, passed-none (g .row .now) (g .table .now) (g .pattern .now) (g .from) (s .pre .1))
 
 mul-same : tie.Need-mul-same Inv-loop μ-loop Inv-positions μ-positions
 mul-same c = search needs
@@ -42,7 +71,9 @@ add-j : tie.Need-add-j Inv-loop μ-loop Inv-positions μ-positions
 add-j c = search needs
 
 loop-holds : tie.Need-loop-holds Inv-loop μ-loop Inv-positions μ-positions
-loop-holds c = ?
+loop-holds c =
+    let s = c .before .before .before .before .before .before .before .before .before .before .before .before in let g = s .args in
+    (refl, refl, root-same (g .row .now) (g .table .now) (g .pattern .now) (s .pre .0) _ (search needs) (sym (c .before .same .ensures) ∙ c .if1 .taken))
 
 mul-step : tie.Need-mul-step Inv-loop μ-loop Inv-positions μ-positions
 mul-step c = search needs
@@ -51,7 +82,9 @@ shared-slice-read-step : tie.Need-shared-slice-read-step Inv-loop μ-loop Inv-po
 shared-slice-read-step c = search needs
 
 step-requires : tie.Need-step-requires Inv-loop μ-loop Inv-positions μ-positions
-step-requires c κs = search needs
+step-requires c κs =
+    let s = c .before .before .before .before .before .before .before .before .before .before .before .before .before .before .before .before in let g = s .args in let i = c .before .before .before .loop in
+    (checked-ends (s .pre .0 .0) (g .row .now) (g .table .now) (g .pattern .now) (s .pre .0 .1), i .inv .2 .marks, walking-inside (g .row .now) (g .table .now) (g .pattern .now) _ (s .pre .0) (i .marks) (i .j) (i .k) (i .inv .2) (search needs))
 
 enum-known-found : tie.Need-enum-known-found Inv-loop μ-loop Inv-positions μ-positions
 enum-known-found c = search needs
@@ -66,7 +99,11 @@ positions-less : tie.Need-positions-less Inv-loop μ-loop Inv-positions μ-posit
 positions-less c = search needs
 
 positions-again : tie.Need-positions-again Inv-loop μ-loop Inv-positions μ-positions
-positions-again c = ?
+positions-again c =
+    let s = c .before .before .before .before .before .before .before .before .before .before .before .before .before .before .before .before .before .before .before in let g = s .args in let o = c .before .before .before .before .before .before .before .before .before .before .before .positions in let i = c .before .before .before .before .before .before .loop in
+    let w = g .row .now in let e = g .table .now in let q = g .pattern .now in
+    let missed = walking-miss w e q (o .p) (s .pre .0) (i .marks) (i .j) (i .k) (i .inv .2) (search needs) _ _ (c .before .before .step .ensures) _ (c .enum-told2 .given .1) in
+    (refl, subst (λ n. Passed w e q (g .from) (n + 1)) (sym (i .inv .0)) (passed-more w e q (g .from) (o .p) (o .inv .1) (search needs) _ missed))
 
 add-k : tie.Need-add-k Inv-loop μ-loop Inv-positions μ-positions
 add-k c = search needs
@@ -75,10 +112,19 @@ loop-less : tie.Need-loop-less Inv-loop μ-loop Inv-positions μ-positions
 loop-less c = search needs
 
 loop-again : tie.Need-loop-again Inv-loop μ-loop Inv-positions μ-positions
-loop-again c = ?
+loop-again c =
+    let s = c .before .before .before .before .before .before .before .before .before .before .before .before .before .before .before .before .before .before .before .before in let g = s .args in let i = c .before .before .before .before .before .before .before .loop in (
+      i .inv .0,
+      refl,
+      walking-next (g .row .now) (g .table .now) (g .pattern .now) _ (s .pre .0) (i .marks) (i .j) (i .k) (i .inv .2) (search needs) _ _ (c .before .before .before .step .ensures) _ (c .before .found .given .1),
+    )
 
 returns-2 : tie.Need-returns-2 Inv-loop μ-loop Inv-positions μ-positions
-returns-2 c = ?
+returns-2 c =
+    let s = c .before .before .before .before .before .before .before .before .before .before .before .before .before .before in let g = s .args in let o = c .before .before .before .before .before .before .positions in let i = c .before .loop in
+    let w = g .row .now in let e = g .table .now in let q = g .pattern .now in
+    let through = walking-end w e q (o .p) (s .pre .0) (i .marks) (i .j) (i .k) (i .inv .2) (search needs) in
+    rw (i .inv .0) (next-here w e q (g .from) (o .p) (o .inv .1) (search needs) (i .j) (i .marks) through)
 
 add-p-2 : tie.Need-add-p-2 Inv-loop μ-loop Inv-positions μ-positions
 add-p-2 c = search needs
@@ -87,10 +133,16 @@ positions-less-2 : tie.Need-positions-less-2 Inv-loop μ-loop Inv-positions μ-p
 positions-less-2 c = search needs
 
 positions-again-2 : tie.Need-positions-again-2 Inv-loop μ-loop Inv-positions μ-positions
-positions-again-2 c = ?
+positions-again-2 c =
+    let s = c .before .before .before .before .before .before .before .before .before .before .before .before in let g = s .args in let o = c .before .before .before .before .positions in
+    let w = g .row .now in let e = g .table .now in let q = g .pattern .now in
+    let plain = sym (c .before .before .before .before .before .before .before .leaf-of .ensures) ∙ c .before .before .before .before .before .enum-told .given .1 in
+    (refl, passed-more w e q (g .from) (o .p) (o .inv .1) (search needs) _ (root-other w e q (s .pre .0) (o .p) (search needs) (sym (c .before .same .ensures) ∙ c .if1 .left) plain))
 
 returns-3 : tie.Need-returns-3 Inv-loop μ-loop Inv-positions μ-positions
-returns-3 c = ?
+returns-3 c =
+    let g = c .before .before .before .before .before .before .before .before .before .args in let o = c .before .positions in
+    next-none (g .row .now) (g .table .now) (g .pattern .now) (g .from) (o .p) (o .inv .1) (search needs)
 
 pub next-match-spec : {M : Type 1} → statement M
 next-match-spec =

@@ -1,15 +1,28 @@
+-- `patterns::variables_at` meets its contract: the walk that is left from pattern place k decides the walk from p, and the
+-- marks of a walk that comes through are those of the variables' first places.
+-- Assumes nothing.
+use Prim.Native.Nat.{_-_}
+use mathlib.Core.Path.{_≡_, refl, sym, ap, _∙_}
+use native.Mathlib.Omega.{arith}
+use lib.ListN.{length}
+use Rattle.patterns.proofs.Marks.{marks-wider}
+use Rattle.patterns.proofs.Matching.{checked-ends}
+use Rattle.patterns.proofs.Going.{Walking, walking-start, walking-inside, walking-next, walking-miss, walking-end}
+use Rattle.patterns.proofs.Facing.{binds-none, binds-some}
 use borrow.Author.Needs.{needs}
 use Rattle.patterns.proofs.variables_at.Statement.{statement}
 use Rattle.patterns.proofs.variables_at.Tie as tie
 
 abbrev Inv-loop : tie.InvT-loop
-Inv-loop row table pattern p out marks₀ j₀ k₀ k-end marks j k = ?
+Inv-loop row table pattern p out marks₀ j₀ k₀ k-end marks j k = (k-end ≡ length pattern) × Walking row table pattern p marks j k
 
 abbrev μ-loop : tie.MeasureT-loop
-μ-loop row table pattern p out marks₀ j₀ k₀ k-end marks j k = ?
+μ-loop row table pattern p out marks₀ j₀ k₀ k-end marks j k = length pattern - k
 
 loop-holds : tie.Need-loop-holds Inv-loop μ-loop
-loop-holds c = ?
+loop-holds c =
+    let s = c .before .before .before .before in let g = s .args in
+    (refl, walking-start (g .row .now) (g .table .now) (g .pattern .now) (g .p) (s .pre .1))
 
 mul-step : tie.Need-mul-step Inv-loop μ-loop
 mul-step c = search needs
@@ -18,7 +31,9 @@ shared-slice-read-step : tie.Need-shared-slice-read-step Inv-loop μ-loop
 shared-slice-read-step c = search needs
 
 step-requires : tie.Need-step-requires Inv-loop μ-loop
-step-requires c κs = search needs
+step-requires c κs =
+    let s = c .before .before .before .before .before .before .before .before in let g = s .args in let i = c .before .before .before .loop in
+    (checked-ends (s .pre .0 .0) (g .row .now) (g .table .now) (g .pattern .now) (s .pre .0 .1), i .inv .1 .marks, walking-inside (g .row .now) (g .table .now) (g .pattern .now) (g .p) (s .pre .0) (i .marks) (i .j) (i .k) (i .inv .1) (search needs))
 
 enum-known-found : tie.Need-enum-known-found Inv-loop μ-loop
 enum-known-found c = search needs
@@ -27,7 +42,10 @@ enum-told : tie.Need-enum-told Inv-loop μ-loop
 enum-told c = search needs
 
 returns : tie.Need-returns Inv-loop μ-loop
-returns c = ?
+returns c =
+    let s = c .before .before .before .before .before .before .before .before .before .before .before in let g = s .args in let i = c .before .before .before .before .before .before .loop in
+    let missed = walking-miss (g .row .now) (g .table .now) (g .pattern .now) (g .p) (s .pre .0) (i .marks) (i .j) (i .k) (i .inv .1) (search needs) _ _ (c .before .before .step .ensures) _ (c .enum-told .given .1) in
+    binds-none (g .row .now) (g .table .now) (g .pattern .now) (g .p) (g .out .now) _ (s .pre .1) missed
 
 add-k : tie.Need-add-k Inv-loop μ-loop
 add-k c = search needs
@@ -36,16 +54,24 @@ loop-less : tie.Need-loop-less Inv-loop μ-loop
 loop-less c = search needs
 
 loop-again : tie.Need-loop-again Inv-loop μ-loop
-loop-again c = ?
+loop-again c =
+    let s = c .before .before .before .before .before .before .before .before .before .before .before .before in let g = s .args in let i = c .before .before .before .before .before .before .before .loop in
+    (refl, walking-next (g .row .now) (g .table .now) (g .pattern .now) (g .p) (s .pre .0) (i .marks) (i .j) (i .k) (i .inv .1) (search needs) _ _ (c .before .before .before .step .ensures) _ (c .before .found .given .1))
 
 write-spans-requires : tie.Need-write-spans-requires Inv-loop μ-loop
-write-spans-requires c κs = search needs
+write-spans-requires c κs =
+    let s = c .before .before .before .before .before .before .before in let g = s .args in let i = c .before .before .loop in
+    let ends = checked-ends (s .pre .0 .0) (g .row .now) (g .table .now) (g .pattern .now) (s .pre .0 .1) in
+    (marks-wider (i .j) (length (g .table .now)) (i .marks) (omega (arith, ends .long, i .inv .1 .within)) (i .inv .1 .marks), s .pre .2)
 
 same-length : tie.Need-same-length Inv-loop μ-loop
 same-length c = search needs
 
 returns-2 : tie.Need-returns-2 Inv-loop μ-loop
-returns-2 c = ?
+returns-2 c =
+    let s = c .before .before .before .before .before .before .before .before .before .before in let g = s .args in let i = c .before .before .before .before .before .loop in
+    let through = walking-end (g .row .now) (g .table .now) (g .pattern .now) (g .p) (s .pre .0) (i .marks) (i .j) (i .k) (i .inv .1) (search needs) in
+    binds-some (g .row .now) (g .table .now) (g .pattern .now) (g .p) (g .out .now) _ (i .j) (i .marks) (s .pre .1) through (c .before .before .write-spans .ensures)
 
 pub variables-at-spec : {M : Type 1} → statement M
 variables-at-spec =
