@@ -1,0 +1,1 @@
+// A row and its table with one subtree replaced, in place.
