@@ -10,7 +10,7 @@ use Rattle.rows.specs.Buffers.{written}
 use Rattle.buffers.specs.Renewed.{renewed, spliced}
 use Rattle.buffers.proofs.Written.{length-written, written-left, written-right}
 
-drop-take : (e n : ℕ) (b : List ℕ) → e ≤ n → n ≤ length b → drop e (take n b) ≡ take (n - e) (drop e b)
+pub drop-take : (e n : ℕ) (b : List ℕ) → e ≤ n → n ≤ length b → drop e (take n b) ≡ take (n - e) (drop e b)
 drop-take e n b h r =
     let q : n ≡ e + (n - e) = omega arith in
     let t : take n b ≡ take e b ++ take (n - e) (drop e b) = ap (λ (k : ℕ). take k b) q ∙ take-add e (n - e) b in

@@ -2,13 +2,13 @@
 -- that are written side by side; a part that was lent to a callee.
 -- Assumes nothing.
 use Prim.Native.Nat.{ℕ, zero, suc, _+_, _-_, _≤_, _<_}
-use mathlib.Core.Path.{_≡_, refl, ap, _∙_}
+use mathlib.Core.Path.{_≡_, refl, sym, ap, _∙_}
 use mathlib.Core.List.{List, [], _∷_, _++_, map, append-assoc, append-nil}
 use native.Mathlib.Nat.{add-zero, add-suc, suc-add, zero-add, add-assoc}
 use native.Mathlib.Numerals.{add-one}
 use native.Mathlib.Omega.{arith}
 use lib.ListN.{length, take, drop, set, getD, length-append, length-take, length-drop, take-append-drop, List·getD-append, drop-of-length-le}
-use lib.Seq.{take-all, take-take, drop-drop, take-at, drop-at, length-take-le, take-suc, drop-cons, set-at, getD-append-add, take-append-le, getD-take, getD-drop}
+use lib.Seq.{take-all, take-take, drop-drop, take-at, drop-at, length-take-le, take-suc, drop-cons, set-at, set-getD, getD-append-add, take-append-le, getD-take, getD-drop}
 use Rattle.rows.specs.Buffers.{written}
 
 pub length-written : (b : List ℕ) (at : ℕ) (v : List ℕ) → at + length v ≤ length b → length (written b at v) ≡ length b
@@ -89,6 +89,66 @@ module _ (b : List ℕ) (at : ℕ) (s : List ℕ) (i : ℕ) where
 
   pub unturned-back : (j : ℕ) → j < at + i → at + i ≤ length b → getD (written b (at + i) (drop i s)) j 0 ≡ getD b j 0
   unturned-back j o r = written-before b (at + i) (drop i s) j o r
+
+-- numbers that are as they were need no writing
+pub unwritten : (b : List ℕ) (at : ℕ) (s : List ℕ) (i d : ℕ) → i + d ≤ length s → at + length s ≤ length b
+    → ((k : ℕ) → i ≤ k → k < i + d → getD s k 0 ≡ getD b (at + k) 0) → written b at (take i s) ≡ written b at (take (i + d) s)
+unwritten b at s i zero h r same = ap (λ (k : ℕ). written b at (take k s)) (sym (add-zero i))
+unwritten b at s i (suc d) h r same =
+    let j = i + d in
+    let e : i + suc d ≡ j + 1 = omega arith in
+    let w = written b at (take j s) in
+    let old : getD w (at + j) 0 ≡ getD s j 0 =
+    unturned b at s j (at + j) (omega arith) (omega arith) (omega arith) ∙ sym (same j (omega arith) (omega arith)) in
+    unwritten b at s i d (omega arith) r (λ k o m. same k o (omega arith))
+    ∙ sym (ap (set w (at + j)) (sym old) ∙ set-getD w (at + j) 0)
+    ∙ turn b at s j (omega arith) (omega arith)
+    ∙ ap (λ (k : ℕ). written b at (take k s)) (sym e)
+
+pub written-same : (b : List ℕ) (at : ℕ) (s : List ℕ) → at + length s ≤ length b
+    → ((k : ℕ) → k < length s → getD s k 0 ≡ getD b (at + k) 0) → written b at s ≡ b
+written-same b at s r same =
+    sym (sym (written-nil b at)
+    ∙ unwritten b at s 0 (length s) (omega arith) r (λ k o h. same k (omega arith))
+    ∙ ap (written b at) (take-all (0 + length s) s (omega arith)))
+
+-- what is read where a part was written, and behind it; and a part written over another
+module _ (b : List ℕ) (at : ℕ) (v : List ℕ) (r : at + length v ≤ length b) where
+  pub getD-written : (k : ℕ) → k < length v → getD (written b at v) (at + k) 0 ≡ getD v k 0
+  unfolding written
+  getD-written k h =
+      let l : length (take at b) ≡ at = length-take-le at b (omega arith) in
+      let e : at + k ≡ length (take at b) + k = omega arith in
+      ap (λ (i : ℕ). getD (take at b ++ (v ++ drop (at + length v) b)) i 0) e
+      ∙ getD-append-add (take at b) (v ++ drop (at + length v) b) k 0
+      ∙ List·getD-append v (drop (at + length v) b) 0 k h
+
+  pub drop-written : (k : ℕ) → at + length v ≤ k → drop k (written b at v) ≡ drop k b
+  unfolding written
+  drop-written k h =
+      let l : length (take at b ++ v) ≡ at + length v = simp (length-append, length-take) (omega arith) in
+      let e : k ≡ (at + length v) + (k - (at + length v)) = omega arith in
+      rw (
+        ← append-assoc,
+        e,
+        ← drop-drop (k - (at + length v)) (at + length v) ((take at b ++ v) ++ drop (at + length v) b),
+        drop-at (take at b ++ v) _ _ l,
+        drop-drop (k - (at + length v)) (at + length v) b,
+      )
+
+  pub take-written : (n : ℕ) → length v ≡ n → take n (drop at (written b at v)) ≡ v
+  unfolding written
+  take-written n e =
+      let l : length (take at b) ≡ at = length-take-le at b (omega arith) in
+      rw (drop-at (take at b) (v ++ drop (at + length v) b) at l) (take-at v (drop (at + length v) b) n e)
+
+  pub written-over : (w : List ℕ) → length v ≡ length w → written (written b at v) at w ≡ written b at w
+  unfolding written
+  written-over w e =
+      let l : length (take at b) ≡ at = length-take-le at b (omega arith) in
+      let d : drop (at + length w) (written b at v) ≡ drop (at + length w) b = drop-written (at + length w) (omega arith) in
+      let x : take at (take at b ++ (v ++ drop (at + length v) b)) ≡ take at b = take-at (take at b) (v ++ drop (at + length v) b) at l in
+      rw x (ap (λ (y : List ℕ). take at b ++ (w ++ y)) d)
 
 -- Two parts written side by side, the right one first, or the left one first, are one part.
 module _ (b : List ℕ) (p : ℕ) (v t : List ℕ) (k : ℕ) (e : k ≡ p + length v) (room : k + length t ≤ length b) where

@@ -2,7 +2,7 @@
 -- Assumes nothing.
 use Prim.Native.Nat.{ℕ, zero, suc, _+_, _-_, _≤_, _<_}
 use mathlib.Core.Path.{_≡_, refl, sym, ap, _∙_}
-use mathlib.Core.List.{List, [], _∷_, _++_, map, map-append, append-assoc, append-nil}
+use mathlib.Core.List.{List, _∷_, _++_, map, map-append, append-assoc, append-nil}
 use native.Mathlib.Nat.{suc-add}
 use native.Mathlib.Omega.{arith}
 use lib.ListN.{length, take, drop, getD, List·getD-append}
@@ -12,8 +12,8 @@ use Rattle.rows.specs.Tree.{Forest, Forest.none, Forest.grow, Tree, single, siz
 use Rattle.rows.proofs.Tree.{length-ends}
 use Rattle.buffers.specs.Shift.{shifted}
 use Rattle.edits.specs.Put.{put, extent}
-use Rattle.edits.specs.Moved.{moved}
-use Rattle.edits.proofs.Put.{put-ind, put-in, put-right, put-root, put-size, at-fits, extent-in, extent-right, extent-root, size-single, below}
+use Rattle.edits.specs.Moved.{moved, splicedEnds}
+use Rattle.edits.proofs.Put.{put-ind, put-in, put-right, put-size, at-fits, extent-in, extent-right, extent-root, size-single}
 
 pub moved-past : (e to x : ℕ) → e ≤ x → moved e to x ≡ shifted e to x
 moved-past e to x h = rw (le-ltb x e h)
@@ -122,7 +122,8 @@ module _ (u : Tree) (s : ℕ) (cs f : Forest) where
 -- the new table from the old one: before the position, ends that lie before the old subtree's end stay and the others are shifted;
 -- then stands the table of u; and then all ends are shifted
 pub put-ends : (u : Tree) (f : Forest) (p e to : ℕ) → p < size f → e ≡ p + extent f p → to ≡ p + size (single u)
-    → ends 0 (put f p u) ≡ map (moved e to) (take p (ends 0 f)) ++ (ends p (single u) ++ map (shifted e to) (drop e (ends 0 f)))
+    → ends 0 (put f p u) ≡ splicedEnds (ends 0 f) p e to (ends p (single u))
+unfolding splicedEnds
 put-ends u f p e to h ee et =
     put-ind (Ends u) (ends-here u) (ends-inside u) (ends-beside u) f p h 0 p e to (ends p (single u)) (omega arith) ee et refl
     ∙ ap (λ (n : ℕ). map (moved e to) (take p (ends 0 f)) ++ (ends p (single u) ++ map (shifted e to) (drop n (ends 0 f)))) (sym ee)

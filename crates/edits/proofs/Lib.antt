@@ -1,3 +1,8 @@
 pub mod Put
 pub mod Ends
 pub mod Positions
+pub mod Walk
+pub mod Signed
+pub mod Place
+pub mod Tail
+pub mod Replace

@@ -2,10 +2,9 @@
 -- a disjoint subtree.
 -- Assumes nothing.
 use Prim.Native.Nat.{ℕ, zero, suc, _+_, _-_, _≤_, _<_}
-use mathlib.Core.Path.{_≡_, refl, sym, ap, _∙_}
+use mathlib.Core.Path.{_≡_, _∙_}
 use native.Mathlib.Nat.{zero-add, suc-add}
 use native.Mathlib.Omega.{arith}
-use borrow.Author.Tests.{lt-ltb, le-ltb}
 use Rattle.rows.specs.Tree.{Forest, Forest.none, Forest.grow, Tree, single, size, subtreeAt}
 use Rattle.edits.specs.Put.{put, extent}
 use Rattle.edits.proofs.Put.{put-ind, put-in, put-right, put-root, put-size, put-below, at-root, at-in, at-right, at-fits, extent-in, extent-right, extent-root, size-single, below}
@@ -140,48 +139,48 @@ module _
     (u : Tree)
     (P : Forest → ℕ → ℕ → ℕ → Type 0)
     (here : (s : ℕ) (cs f : Forest) (q q′ : ℕ) → size cs ≤ q → size (u .children) ≤ q′ → q′ - size (u .children) ≡ q - size cs
-        → P (grow s cs f) zero (suc q) (suc q′))
+    → P (grow s cs f) zero (suc q) (suc q′))
     (inside : (s : ℕ) (cs f : Forest) (p q q′ : ℕ) → p < q → q < size cs → q′ < size (put cs p u) → P cs p q q′
-        → P (grow s cs f) (suc p) (suc q) (suc q′))
+    → P (grow s cs f) (suc p) (suc q) (suc q′))
     (past : (s : ℕ) (cs f : Forest) (p q q′ : ℕ) → p < size cs → size cs ≤ q → size (put cs p u) ≤ q′ → q′ - size (put cs p u) ≡ q - size cs
-        → P (grow s cs f) (suc p) (suc q) (suc q′))
+    → P (grow s cs f) (suc p) (suc q) (suc q′))
     (right : (s : ℕ) (cs f : Forest) (p q q′ : ℕ) → size cs ≤ p → size cs ≤ q → size cs ≤ q′ → P f (p - size cs) (q - size cs) (q′ - size cs)
-        → P (grow s cs f) (suc p) (suc q) (suc q′))
+    → P (grow s cs f) (suc p) (suc q) (suc q′))
   where
-  abbrev Move : Forest → ℕ → Type 0
-  Move f p = (q q′ : ℕ) → Moves u f p q q′ → P f p q q′
+    abbrev Move : Forest → ℕ → Type 0
+    Move f p = (q q′ : ℕ) → Moves u f p q q′ → P f p q q′
 
-  move-here : (s : ℕ) (cs f : Forest) → Move (grow s cs f) zero
-  move-here s cs f zero q′ m = absurd (omega (arith, extent-root s cs f))
-  move-here s cs f (suc q) zero m = absurd (omega (arith, extent-root s cs f, size-single u))
-  move-here s cs f (suc q) (suc q′) m =
-      let x = extent-root s cs f in
-      let y = size-single u in
-      here s cs f q q′ (omega arith) (omega arith) (omega arith)
+    move-here : (s : ℕ) (cs f : Forest) → Move (grow s cs f) zero
+    move-here s cs f zero q′ m = absurd (omega (arith, extent-root s cs f))
+    move-here s cs f (suc q) zero m = absurd (omega (arith, extent-root s cs f, size-single u))
+    move-here s cs f (suc q) (suc q′) m =
+        let x = extent-root s cs f in
+        let y = size-single u in
+        here s cs f q q′ (omega arith) (omega arith) (omega arith)
 
-  move-in : (s : ℕ) (cs f : Forest) (p : ℕ) → p < size cs → Move cs p → Move (grow s cs f) (suc p)
-  move-in s cs f p i ih zero q′ m = absurd (omega arith)
-  move-in s cs f p i ih (suc q) zero m = absurd (omega (arith, size-single u))
-  move-in s cs f p i ih (suc q) (suc q′) m =
-      let x = extent-in s cs f p i in
-      let z = put-size u cs p i in
-      let y = size-single (subtreeAt cs p) in
-      below q (size cs)
-      (λ j. inside s cs f p q q′ (omega arith) j (omega arith) (ih q q′ (omega arith, j, omega arith)))
-      (λ j. past s cs f p q q′ i j (omega arith) (omega arith))
+    move-in : (s : ℕ) (cs f : Forest) (p : ℕ) → p < size cs → Move cs p → Move (grow s cs f) (suc p)
+    move-in s cs f p i ih zero q′ m = absurd (omega arith)
+    move-in s cs f p i ih (suc q) zero m = absurd (omega (arith, size-single u))
+    move-in s cs f p i ih (suc q) (suc q′) m =
+        let x = extent-in s cs f p i in
+        let z = put-size u cs p i in
+        let y = size-single (subtreeAt cs p) in
+        below q (size cs)
+        (λ j. inside s cs f p q q′ (omega arith) j (omega arith) (ih q q′ (omega arith, j, omega arith)))
+        (λ j. past s cs f p q q′ i j (omega arith) (omega arith))
 
-  move-right : (s : ℕ) (cs f : Forest) (p : ℕ) → size cs ≤ p → p - size cs < size f → Move f (p - size cs) → Move (grow s cs f) (suc p)
-  unfolding size
-  move-right s cs f p i h ih zero q′ m = absurd (omega arith)
-  move-right s cs f p i h ih (suc q) zero m = absurd (omega (arith, extent-right s cs f p i, at-fits f (p - size cs) h))
-  move-right s cs f p i h ih (suc q) (suc q′) m =
-      let x = extent-right s cs f p i in
-      let y = size-single u in
-      right s cs f p q q′ i (omega arith) (omega arith)
-      (ih (q - size cs) (q′ - size cs) (omega arith, omega arith, omega arith))
+    move-right : (s : ℕ) (cs f : Forest) (p : ℕ) → size cs ≤ p → p - size cs < size f → Move f (p - size cs) → Move (grow s cs f) (suc p)
+    unfolding size
+    move-right s cs f p i h ih zero q′ m = absurd (omega arith)
+    move-right s cs f p i h ih (suc q) zero m = absurd (omega (arith, extent-right s cs f p i, at-fits f (p - size cs) h))
+    move-right s cs f p i h ih (suc q) (suc q′) m =
+        let x = extent-right s cs f p i in
+        let y = size-single u in
+        right s cs f p q q′ i (omega arith) (omega arith)
+        (ih (q - size cs) (q′ - size cs) (omega arith, omega arith, omega arith))
 
-  move-ind : (f : Forest) (p : ℕ) → p < size f → Move f p
-  move-ind = put-ind Move move-here move-in move-right
+    move-ind : (f : Forest) (p : ℕ) → p < size f → Move f p
+    move-ind = put-ind Move move-here move-in move-right
 
 -- a subtree behind the replaced one is the same, at its new position
 pub at-behind : (u : Tree) (f : Forest) (p : ℕ) → p < size f → (q q′ : ℕ) → Moves u f p q q′ → subtreeAt (put f p u) q′ ≡ subtreeAt f q

@@ -1,2 +1,4 @@
 pub mod Put
 pub mod Moved
+pub mod Given
+pub mod Replace

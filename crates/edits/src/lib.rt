@@ -1,1 +1,124 @@
-// A row and its table with one subtree replaced, in place.
+// A row and its table with one subtree replaced, both in place; refusals 17 and 18; the change in length.
+ghost use mathlib.Core.Path.{_≡_};
+ghost use mathlib.Core.List.{map};
+ghost use Prim.Native.Nat.{ℕ, _+_, _-_, _≤_, _<_};
+ghost use lib.ListN.{length, take, drop, getD};
+ghost use lib.IntN.{pos, _-ℤ_};
+ghost use Rattle.rows.specs.Tree.{ends};
+ghost use Rattle.rows.specs.Parse.{parse};
+ghost use Rattle.rows.specs.Row.{Accepted};
+ghost use Rattle.rows.specs.Refusals.{_then_, position};
+ghost use Rattle.rows.specs.Buffers.{written};
+ghost use Rattle.buffers.specs.Shift.{shifted};
+ghost use Rattle.buffers.specs.Renewed.{renewed, spliced};
+ghost use Rattle.edits.specs.Moved.{moved, splicedEnds};
+ghost use Rattle.edits.specs.Given.{Room, Movable};
+ghost use Rattle.edits.specs.Replace.{grown, Replaceable, Replacing};
+use rows::Check;
+use rows::Refusal;
+
+// The ends of the subtrees that hold the one at p move as its end moves from e to `to`. The way leads from the root down to
+// p: a subtree that ends before p is hopped over, one that holds p is entered.
+fn move_holders(table: &mut [u16], p: usize, e: usize, to: usize)
+    requires { ⌜ ((n : ℕ) × Movable (now table) n p e to) ⌝ }
+    ensures { λ r. ⌜ now (table .exit) ≡ written (now (table .entry)) 0 (map (moved e to) (take p (now (table .entry)))) ⌝ }
+{
+    let mut q: usize = 0;
+    while q < p {
+        let end = table[q] as usize;
+        if end <= p {
+            q = end;
+        } else {
+            table[q] = (end - e + to) as u16;
+            q += 1;
+        }
+    }
+}
+
+// The entries of the subtrees that hold the one at p, and those of the tail behind it, which is moved too. Nothing changes
+// where the new subtree ends where the old one does.
+fn move_ends(table: &mut [u16], n: usize, p: usize, e: usize, to: usize)
+    requires { ⌜ Movable (now table) n p e to ⌝ }
+    ensures { λ r. ⌜ now (table .exit) ≡ written (written (now (table .entry)) 0 (map (moved e to) (take p (now (table .entry))))) to (map (shifted e to) (take (n - e) (drop e (now (table .entry))))) ⌝ }
+{
+    if e == to {
+        return;
+    }
+    let rest = n - e;
+    move_holders(table, p, e, to);
+    buffers::move_part(table, e, to, rest);
+    buffers::shift(table, to, rest, e as u16, to as u16);
+}
+
+// In the row of n symbols at the front of the buffer, those from p to e give way to `v`; freed places hold 65535.
+fn replace_symbols(row: &mut [u16], n: usize, p: usize, e: usize, v: &[u16])
+    requires { ⌜ Room n p e (p + length (now v)) (length (now row)) ⌝ }
+    ensures { λ r. ⌜ now (row .exit) ≡ renewed (now (row .entry)) n 65535 (spliced (take n (now (row .entry))) p e (now (v .entry))) ⌝ }
+{
+    let to = p + v.len();
+    let rest = n - e;
+    buffers::move_part(row, e, to, rest);
+    buffers::copy_into(&mut row[p..], v);
+    buffers::fill(row, to + rest, n, 65535);
+}
+
+// In the table of n entries at the front of the buffer, those from p to e give way to those of the row `v`, and the others
+// move; freed places hold 0.
+fn replace_ends(arities: &[u16], table: &mut [u16], n: usize, p: usize, e: usize, v: &[u16])
+    requires { ⌜ Movable (now table) n p e (p + length (now v)) ⌝ }
+    requires { ⌜ Accepted (now arities) (now v) ⌝ }
+    ensures { λ r. ⌜ now (table .exit) ≡ renewed (now (table .entry)) n 0 (splicedEnds (take n (now (table .entry))) p e (p + length (now (v .entry))) (ends p (parse (now (arities .entry)) (now (v .entry))))) ⌝ }
+{
+    let to = p + v.len();
+    let rest = n - e;
+    move_ends(table, n, p, e, to);
+    tables::fill_ends(arities, v, table, p);
+    buffers::fill(table, to + rest, n, 0);
+}
+
+// In the row of n symbols at the front of its buffer, with its table, the subtree at p gives way to the row `v`. The answer
+// is the new length.
+pub fn replace_at(
+    arities: &[u16],
+    row: &mut [u16],
+    table: &mut [u16],
+    n: usize,
+    v: &[u16],
+    p: usize,
+) -> usize
+    requires { ⌜ Replaceable (now arities) (now row) (now table) n (now v) p ⌝ }
+    ensures { λ r. ⌜ Replacing (now (arities .entry)) (now (row .entry)) (now (table .entry)) n (now (v .entry)) p (now (row .exit)) (now (table .exit)) r ⌝ }
+{
+    let e = table[p] as usize;
+    replace_symbols(row, n, p, e, v);
+    replace_ends(arities, table, n, p, e, v);
+    p + v.len() + (n - e)
+}
+
+// Refusals 17 and 18, for a subtree of `size` symbols at position p of a row of n symbols with its table, where the shortest
+// buffer has `room` places.
+pub fn check_place(table: &[u16], room: usize, n: usize, size: usize, p: usize) -> Check
+    requires { ⌜ (n ≤ 16384) × (size ≤ 16384) × (n ≤ length (now table)) × (p < n → getD (now table) p 0 ≤ n) ⌝ }
+    ensures { λ r. ⌜ r ≡ (position n p then grown (p + size + (n - getD (now (table .entry)) p 0)) room) ⌝ }
+{
+    if n <= p {
+        return Check::Refused(Refusal::Position(p));
+    }
+    let e = table[p] as usize;
+    let new = p + size + (n - e);
+    if 16384 < new {
+        return Check::Refused(Refusal::TooLong(new));
+    }
+    if room < new {
+        return Check::Refused(Refusal::TooLong(new));
+    }
+    Check::Fine
+}
+
+// How much longer the new row is than the old one.
+pub fn change(new: usize, old: usize) -> i32
+    requires { ⌜ (new ≤ 16384) × (old ≤ 16384) ⌝ }
+    ensures { λ r. ⌜ r ≡ pos new -ℤ pos old ⌝ }
+{
+    new as i32 - old as i32
+}

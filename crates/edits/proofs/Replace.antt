@@ -1,0 +1,130 @@
+-- From a row and its table, spliced, to the tree with a subtree replaced.
+-- Assumes nothing.
+use Prim.Native.Nat.{ℕ, _+_, _-_, _≤_, _<_}
+use mathlib.Core.Path.{_≡_, refl, sym, ap, ap₂, _∙_}
+use mathlib.Core.List.{List}
+use native.Mathlib.Omega.{arith}
+use lib.ListN.{length, take, getD}
+use lib.Seq.{length-take-le}
+use Rattle.rows.specs.Tree.{Forest, Forest.none, single, size, prefix, ends, subtreeAt}
+use Rattle.rows.specs.Parse.{parse, table}
+use Rattle.rows.specs.Row.{Accepted, allowed}
+use Rattle.rows.specs.declared.Leaves.the-variants.{Symbols}
+use Rattle.rows.proofs.Parse.{prefix-parse, size-parse}
+use Rattle.rows.proofs.Accept.{count-parse, lone}
+use Rattle.tables.specs.Given.{Right}
+use Rattle.tables.proofs.Given.{right-entry, right-bounds}
+use Rattle.buffers.specs.Renewed.{renewed, spliced}
+use Rattle.edits.specs.Put.{put, extent, treeOf, changed}
+use Rattle.edits.specs.Moved.{splicedEnds}
+use Rattle.edits.specs.Given.{Room, Nested, Movable}
+use Rattle.edits.specs.Replace.{Replaceable, Replacing}
+use Rattle.edits.proofs.Put.{put-size, put-prefix, at-root}
+use Rattle.edits.proofs.Ends.{put-ends, end-at, nests}
+
+-- a row that is accepted is one tree's
+pub one-tree : (A v : List ℕ) → Accepted A v → parse A v ≡ single (treeOf A v)
+one-tree A v h =
+    let t = lone (parse A v) (count-parse A (allowed Symbols A) v 1 0 h) in
+    t .1 ∙ ap single (sym (ap (λ (f : Forest). subtreeAt f 0) (t .1) ∙ at-root (t .0 .symbol) (t .0 .children) none))
+
+pub size-tree : (A v : List ℕ) → Accepted A v → size (single (treeOf A v)) ≡ length v
+size-tree A v h = ap size (sym (one-tree A v h)) ∙ size-parse A v
+
+-- entry k of a right table is where the subtree at k ends
+pub right-end : (A w t : List ℕ) → Right A w t → (k : ℕ) → k < length w → getD t k 0 ≡ k + extent (parse A w) k
+unfolding table
+right-end A w t r k h =
+    right-entry A w t r k h ∙ end-at (parse A w) k (omega (arith, size-parse A w)) 0 ∙ omega arith
+
+pub right-nested : (A w t : List ℕ) → Right A w t → Nested t (length w)
+right-nested A w t r =
+    record {
+      behind = λ k h. right-bounds A w t r k h .0;
+      within = λ k h. right-bounds A w t r k h .1;
+      nests =
+          λ q k h o i.
+          let b = right-bounds A w t r q h .1 in
+          let x = right-end A w t r q h in
+          omega (arith, right-end A w t r k (omega arith), nests (parse A w) q (omega (arith, size-parse A w)) k o (omega arith));
+    }
+
+-- the new length, from the entry at the position
+pub new-length : (A w t v : List ℕ) (p : ℕ) → Right A w t → Accepted A v → p < length w
+    → size (changed A w p v) ≡ p + length v + (length w - getD t p 0)
+new-length A w t v p r h i =
+    let j : p < size (parse A w) = omega (arith, size-parse A w) in
+    omega (arith, size-parse A w, right-end A w t r p i, right-bounds A w t r p i, size-tree A v h, put-size (treeOf A v) (parse A w) p j)
+
+module _ (A row t : List ℕ) (n : ℕ) (v : List ℕ) (p : ℕ) (r : Replaceable A row t n v p) where
+  abbrev w : List ℕ
+  w = take n row
+
+  abbrev e : ℕ
+  e = getD t p 0
+
+  long : length w ≡ n
+  long = length-take-le n row (r .within)
+
+  pub entry-in : p < length t
+  entry-in = omega (arith, long, r .position, r .right .sized .fits)
+
+  pub bounds : (p < e) × (e ≤ n)
+  bounds =
+      let b = right-bounds A w t (r .right) p (omega (arith, long, r .position)) in
+      (b .0, omega (arith, long, b .1))
+
+  pub length-new : size (changed A w p v) ≡ p + length v + (n - e)
+  length-new =
+      new-length A w t v p (r .right) (r .accepted) (omega (arith, long, r .position)) ∙ ap (λ (k : ℕ). p + length v + (k - e)) long
+
+  room : (places : ℕ) → n ≤ places → size (changed A w p v) ≤ places → Room n p e (p + length v) places
+  room places old new =
+      record {
+        starts = bounds .0;
+        stops = bounds .1;
+        most = omega (arith, long, r .right .sized .most);
+        old = old;
+        new-most = omega (arith, length-new, r .most);
+        new = omega (arith, length-new);
+      }
+
+  pub row-room : Room n p e (p + length v) (length row)
+  row-room = room (length row) (r .within) (r .row-room)
+
+  pub table-movable : Movable t n p e (p + length v)
+  table-movable =
+      record {
+        nested = rw long at (right-nested A w t (r .right));
+        entry = refl;
+        room = room (length t) (omega (arith, long, r .right .sized .fits)) (r .table-room);
+      }
+
+  -- both splices together are the replacement
+  pub replaced : (row′ t′ : List ℕ) (m : ℕ)
+      → row′ ≡ renewed row n 65535 (spliced w p e v)
+      → t′ ≡ renewed t n 0 (splicedEnds (take n t) p e (p + length v) (ends p (parse A v)))
+      → m ≡ p + length v + (n - e)
+      → Replacing A row t n v p row′ t′ m
+  unfolding table
+  replaced row′ t′ m er et em =
+      let F = parse A w in
+      let u = treeOf A v in
+      let one = one-tree A v (r .accepted) in
+      let i : p < length w = omega (arith, long, r .position) in
+      let j : p < size F = omega (arith, size-parse A w) in
+      let ee : e ≡ p + extent F p = right-end A w t (r .right) p i in
+      let eu : p + length v ≡ p + size (single u) = omega (arith, size-tree A v (r .accepted)) in
+      let tabled : take n t ≡ ends 0 F = ap (λ (k : ℕ). take k t) (sym long) ∙ r .right .right in
+      let x : prefix (put F p u) ≡ spliced w p e v =
+      put-prefix u F p j
+      ∙ rw (prefix-parse A w, ← ee)
+      (ap (spliced w p e) (ap prefix (sym one) ∙ prefix-parse A v)) in
+      let y : ends 0 (put F p u) ≡ splicedEnds (take n t) p e (p + length v) (ends p (parse A v)) =
+      put-ends u F p e (p + length v) j ee eu
+      ∙ ap₂ (λ (a b : List ℕ). splicedEnds a p e (p + length v) b) (sym tabled) (ap (ends p) (sym one)) in
+      record {
+        length-now = em ∙ sym length-new;
+        row-now = er ∙ ap (renewed row n 65535) (sym x);
+        table-now = et ∙ ap (renewed t n 0) (sym y);
+      }

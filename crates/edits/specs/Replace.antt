@@ -1,0 +1,36 @@
+-- What a replacement asks for, and what it leaves.
+use Prim.Native.Nat.{ℕ, _≤_, _<_, min}
+use mathlib.Core.Path.{_≡_}
+use mathlib.Core.List.{List}
+use lib.Dec.{ltb}
+use lib.ListN.{length, take}
+use Rattle.rows.specs.Tree.{size, prefix, ends}
+use Rattle.rows.specs.Row.{pick, Accepted}
+use Rattle.rows.specs.declared.Refusal.the-variants.{TooLong}
+use Rattle.rows.specs.declared.Check.{Check}
+use Rattle.rows.specs.declared.Check.the-variants.{Fine, Refused}
+use Rattle.tables.specs.Given.{Right}
+use Rattle.buffers.specs.Renewed.{renewed}
+use Rattle.edits.specs.Put.{changed}
+
+-- 18: the new row of m symbols is at most 16,384 long, and the shortest of its buffers, of `room` places, has room for it
+unfoldable pub grown : ℕ → ℕ → Check
+grown m room = pick (ltb (min 16384 room) m) (Refused (TooLong m)) Fine
+
+-- an accepted row, the first n places of its buffer, with its table; an accepted replacement; a position of the row; and room
+-- for the new row: what the refusals leave
+pub record Replaceable (A row table : List ℕ) (n : ℕ) (v : List ℕ) (p : ℕ) : Type 0 where
+  pub within : n ≤ length row
+  pub right : Right A (take n row) table
+  pub accepted : Accepted A v
+  pub position : p < n
+  pub most : size (changed A (take n row) p v) ≤ 16384
+  pub row-room : size (changed A (take n row) p v) ≤ length row
+  pub table-room : size (changed A (take n row) p v) ≤ length table
+
+-- the new length m, and what the row's buffer and the table hold: the row and the table of the changed tree, blanks in the
+-- places that are freed, and what stood behind them before
+pub record Replacing (A row table : List ℕ) (n : ℕ) (v : List ℕ) (p : ℕ) (row′ table′ : List ℕ) (m : ℕ) : Type 0 where
+  pub length-now : m ≡ size (changed A (take n row) p v)
+  pub row-now : row′ ≡ renewed row n 65535 (prefix (changed A (take n row) p v))
+  pub table-now : table′ ≡ renewed table n 0 (ends 0 (changed A (take n row) p v))
