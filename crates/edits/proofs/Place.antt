@@ -5,7 +5,7 @@ use mathlib.Core.Path.{_≡_, refl}
 use mathlib.Core.Bool.{Bool, true, false}
 use native.Mathlib.Omega.{arith}
 use lib.Dec.{ltb}
-use borrow.Author.Tests.{lt-ltb, le-ltb, ltb-true, ltb-false}
+use borrow.Author.Tests.{lt-ltb, le-ltb, ltb-false}
 use Rattle.rows.specs.Row.{pick}
 use Rattle.rows.specs.Refusals.{_then_, position}
 use Rattle.rows.specs.declared.Refusal.the-variants.{Position, TooLong}
@@ -29,15 +29,7 @@ pub grown-fits : (m room : ℕ) → m ≤ min 16384 room → grown m room ≡ Fi
 unfolding grown
 grown-fits m room h = simp (le-ltb (min 16384 room) m h)
 
--- what they leave
-pub position-fine : (n p : ℕ) → position n p ≡ Fine → p < n
-unfolding position
-position-fine n p e = go (ltb p n) refl e
-  where
-    go : (b : Bool) → ltb p n ≡ b → pick b Fine (Refused (Position p)) ≡ Fine → p < n
-    go true q e = ltb-true p n q
-    go false q e = let z : _≡_ {A = ℕ} 0 1 = cc in absurd (omega arith)
-
+-- what 18 leaves
 pub grown-fine : (m room : ℕ) → grown m room ≡ Fine → m ≤ min 16384 room
 unfolding grown
 grown-fine m room e = go (ltb (min 16384 room) m) refl e

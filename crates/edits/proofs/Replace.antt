@@ -6,30 +6,25 @@ use mathlib.Core.List.{List}
 use native.Mathlib.Omega.{arith}
 use lib.ListN.{length, take, getD}
 use lib.Seq.{length-take-le}
-use Rattle.rows.specs.Tree.{Forest, Forest.none, single, size, prefix, ends, subtreeAt}
-use Rattle.rows.specs.Parse.{parse, table}
+use Rattle.rows.specs.Tree.{single, size, prefix, ends}
+use Rattle.rows.specs.Parse.{parse, treeOf, table}
 use Rattle.rows.specs.Row.{Accepted, allowed}
 use Rattle.rows.specs.declared.Leaves.the-variants.{Symbols}
 use Rattle.rows.proofs.Parse.{prefix-parse, size-parse}
-use Rattle.rows.proofs.Accept.{count-parse, lone}
+use Rattle.rows.proofs.Accept.{parse-whole}
 use Rattle.tables.specs.Given.{Right}
 use Rattle.tables.proofs.Given.{right-entry, right-bounds}
 use Rattle.buffers.specs.Renewed.{renewed, spliced}
-use Rattle.edits.specs.Put.{put, extent, treeOf, changed}
+use Rattle.edits.specs.Put.{put, extent, changed}
 use Rattle.edits.specs.Moved.{splicedEnds}
 use Rattle.edits.specs.Given.{Room, Nested, Movable}
 use Rattle.edits.specs.Replace.{Replaceable, Replacing}
-use Rattle.edits.proofs.Put.{put-size, put-prefix, at-root}
+use Rattle.edits.proofs.Put.{put-size, put-prefix}
 use Rattle.edits.proofs.Ends.{put-ends, end-at, nests}
 
--- a row that is accepted is one tree's
-pub one-tree : (A v : List ℕ) → Accepted A v → parse A v ≡ single (treeOf A v)
-one-tree A v h =
-    let t = lone (parse A v) (count-parse A (allowed Symbols A) v 1 0 h) in
-    t .1 ∙ ap single (sym (ap (λ (f : Forest). subtreeAt f 0) (t .1) ∙ at-root (t .0 .symbol) (t .0 .children) none))
-
+-- an accepted row has as many symbols as its tree has nodes
 pub size-tree : (A v : List ℕ) → Accepted A v → size (single (treeOf A v)) ≡ length v
-size-tree A v h = ap size (sym (one-tree A v h)) ∙ size-parse A v
+size-tree A v h = ap size (sym (parse-whole A (allowed Symbols A) v h)) ∙ size-parse A v
 
 -- entry k of a right table is where the subtree at k ends
 pub right-end : (A w t : List ℕ) → Right A w t → (k : ℕ) → k < length w → getD t k 0 ≡ k + extent (parse A w) k
@@ -110,7 +105,7 @@ module _ (A row t : List ℕ) (n : ℕ) (v : List ℕ) (p : ℕ) (r : Replaceabl
   replaced row′ t′ m er et em =
       let F = parse A w in
       let u = treeOf A v in
-      let one = one-tree A v (r .accepted) in
+      let one = parse-whole A (allowed Symbols A) v (r .accepted) in
       let i : p < length w = omega (arith, long, r .position) in
       let j : p < size F = omega (arith, size-parse A w) in
       let ee : e ≡ p + extent F p = right-end A w t (r .right) p i in

@@ -3,7 +3,7 @@ use Prim.Native.Nat.{ℕ, zero, suc, _-_}
 use mathlib.Core.List.{List}
 use lib.Dec.{ltb}
 use Rattle.rows.specs.Tree.{Forest, Forest.none, Forest.grow, Tree, single, size, subtreeAt}
-use Rattle.rows.specs.Parse.{parse}
+use Rattle.rows.specs.Parse.{parse, treeOf}
 use Rattle.rows.specs.Row.{pick}
 
 -- the forest with the subtree at position p replaced by the tree u (itself, where it has no position p)
@@ -15,10 +15,6 @@ put (grow s cs f) (suc p) u = pick (ltb p (size cs)) (grow s (put cs p u) f) (gr
 -- how many nodes the subtree at position p has
 abbrev pub extent : Forest → ℕ → ℕ
 extent f p = size (single (subtreeAt f p))
-
--- the tree of a row
-abbrev pub treeOf : List ℕ → List ℕ → Tree
-treeOf A v = subtreeAt (parse A v) 0
 
 -- the tree of the row w once the subtree at p has given way to that of the row v
 abbrev pub changed : List ℕ → List ℕ → ℕ → List ℕ → Forest
