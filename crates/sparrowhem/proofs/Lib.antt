@@ -1,3 +1,4 @@
 pub mod Building
 pub mod Handing
+pub mod Replacing
 pub mod Promises

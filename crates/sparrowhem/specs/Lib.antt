@@ -1,3 +1,4 @@
 pub mod Build
+pub mod Edit
 pub mod Parts
 pub mod Promises

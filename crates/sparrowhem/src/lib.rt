@@ -1,7 +1,10 @@
 // Sparrowhem's public calls. None of them asks anything of its caller: faulty input is refused with a number and a place.
+mod edit;
 mod parts;
 mod table;
 
+pub use edit::Replaced;
+pub use edit::replace;
 pub use parts::Placed;
 pub use parts::subtree;
 pub use parts::subtree_answer;
