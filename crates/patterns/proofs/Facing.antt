@@ -12,14 +12,14 @@ use lib.Dec.{eqb, ltb→lt}
 use lib.ListN.{getD, length, set, List·getD-eq-default}
 use lib.Seq.{getD-set-same, getD-set-other}
 use Rattle.rows.specs.Tree.{Forest, Forest.none, Forest.grow, Tree, single, size, count, prefix, Ranked, subtreeAt}
-use Rattle.rows.specs.Parse.{parse, table}
+use Rattle.rows.specs.Parse.{parse, treeOf, table}
 use Rattle.rows.specs.Row.{pick, symbol, allowed}
 use Rattle.rows.specs.Buffers.{written}
 use Rattle.rows.specs.declared.Leaves.the-variants.{Blanks, Symbols}
 use Rattle.rows.proofs.Accept.{enough}
 use Rattle.tables.proofs.Given.{right-entry}
 use Rattle.patterns.specs.Pattern.{leaf}
-use Rattle.patterns.specs.Answers.{treeOf, faced, isLeaf, span, spansBelow, spans, Checked, Binds}
+use Rattle.patterns.specs.Answers.{faced, isLeaf, span, spansBelow, spans, Checked, Binds}
 use Rattle.patterns.specs.Walk.{sameSymbol, agreeing, Outcome, Outcome.misses, Outcome.reaches, meets, takes, steps, onward, walk, unmarked, markBegin, markEnd, markSpans, MarksIn}
 use Rattle.patterns.specs.declared.Leaf.{Leaf}
 use Rattle.patterns.specs.declared.Leaf.the-variants.{Plain, Blank, Variable}

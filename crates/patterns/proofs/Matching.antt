@@ -8,7 +8,7 @@ use mathlib.Core.Bool.{true}
 use native.Mathlib.Omega.{arith}
 use lib.ListN.{getD, length}
 use Rattle.rows.specs.Tree.{Forest.none, Tree, single, size, count, prefix, Ranked, subtrees, subtreeAt}
-use Rattle.rows.specs.Parse.{parse}
+use Rattle.rows.specs.Parse.{parse, treeOf}
 use Rattle.rows.specs.Row.{verdict, allowed, orElse, sized, reading}
 use Rattle.rows.specs.declared.Leaves.the-variants.{Blanks}
 use Rattle.rows.specs.declared.Verdict.{Verdict}
@@ -18,7 +18,7 @@ use Rattle.rows.proofs.Accept.{count-parse, ranked-parse, lone}
 use Rattle.rows.proofs.Scan.{sized-fits}
 use Rattle.tables.proofs.Given.{right-bounds}
 use Rattle.patterns.specs.Pattern.{Matches}
-use Rattle.patterns.specs.Answers.{treeOf, MatchesAt, Checked}
+use Rattle.patterns.specs.Answers.{MatchesAt, Checked}
 use Rattle.patterns.specs.Walk.{Outcome, Outcome.misses, Outcome.reaches, walk, unmarked, through, comesThrough, Ends, MarksIn}
 use Rattle.patterns.proofs.Standing.{Planted, planted-at, planted-once, stands-inside, stands-end}
 use Rattle.patterns.proofs.Fits.{Fits, fits-matches, matches-fits}

@@ -6,8 +6,8 @@ use mathlib.Core.Bool.{Bool, true, false}
 use mathlib.Core.Logic.{_↔_}
 use lib.Dec.{leb, eqb}
 use lib.ListN.{length, getD}
-use Rattle.rows.specs.Tree.{Forest, Forest.none, Forest.grow, Tree, single, size, subtreeAt}
-use Rattle.rows.specs.Parse.{parse, table}
+use Rattle.rows.specs.Tree.{Forest, Forest.none, Forest.grow, single, size, subtreeAt}
+use Rattle.rows.specs.Parse.{parse, treeOf, table}
 use Rattle.rows.specs.Row.{pick, reading}
 use Rattle.rows.specs.Buffers.{written}
 use Rattle.rows.specs.declared.Leaves.the-variants.{Blanks}
@@ -16,10 +16,6 @@ use Rattle.tables.specs.Given.{Right}
 use Rattle.patterns.specs.Pattern.{leaf, Matches}
 use Rattle.patterns.specs.declared.Leaf.{Leaf}
 use Rattle.patterns.specs.declared.Leaf.the-variants.{Plain, Blank, Variable}
-
--- the tree of a pattern: the first that its list spells
-abbrev pub treeOf : List ℕ → List ℕ → Tree
-treeOf A q = subtreeAt (parse A q) 0
 
 -- the pattern q matches the subtree at position p of the row w
 abbrev pub MatchesAt : List ℕ → List ℕ → List ℕ → ℕ → Type 0

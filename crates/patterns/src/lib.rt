@@ -4,9 +4,14 @@ ghost use mathlib.Core.List.{List};
 ghost use Prim.Native.Nat.{ℕ, _+_, _≤_, _<_};
 ghost use lib.ListN.{length, take, drop, getD};
 ghost use Rattle.rows.specs.Buffers.{written};
+ghost use Rattle.rows.specs.Refusals.{pattern};
 ghost use Rattle.patterns.specs.Pattern.{leaf};
 ghost use Rattle.patterns.specs.Answers.{Checked, Searchable, Next, Counts, Lists, Room, Binds};
 ghost use Rattle.patterns.specs.Walk.{sameSymbol, sameFront, meets, steps, Ends, MarksIn, Answers, markBegin, markEnd, markSpans};
+use rows::Check;
+use rows::Leaves;
+use rows::Refusal;
+use rows::Verdict;
 
 // What a number of a pattern stands for: itself, any subtree, or the subtree of a variable.
 pub enum Leaf {
@@ -25,6 +30,16 @@ pub fn leaf_of(s: u16) -> Leaf
         return Leaf::Variable((s - 65280) as usize);
     }
     Leaf::Plain
+}
+
+// Refusals 11 to 15: the pattern.
+pub fn check_pattern(arities: &[u16], list: &[u16]) -> Check
+    ensures { λ r. ⌜ r ≡ pattern (now (arities .entry)) (now (list .entry)) ⌝ }
+{
+    match rows::check_reading(arities, list, Leaves::Blanks, 256) {
+        Verdict::Faulty(f) => Check::Refused(Refusal::Pattern(f)),
+        Verdict::Whole => Check::Fine,
+    }
 }
 
 // Are two symbols the same? Symbols are compared here only.

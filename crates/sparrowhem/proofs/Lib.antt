@@ -1,4 +1,5 @@
 pub mod Building
 pub mod Handing
 pub mod Replacing
+pub mod Searching
 pub mod Promises

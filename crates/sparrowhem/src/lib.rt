@@ -1,6 +1,7 @@
 // Sparrowhem's public calls. None of them asks anything of its caller: faulty input is refused with a number and a place.
 mod edit;
 mod parts;
+mod search;
 mod table;
 
 pub use edit::Replaced;
@@ -12,4 +13,8 @@ pub use rows::Check;
 pub use rows::Refusal;
 pub use rows::number_of;
 pub use rows::place_of;
+pub use search::Bound;
+pub use search::Found;
+pub use search::find;
+pub use search::variables;
 pub use table::build;

@@ -1,0 +1,32 @@
+-- `sparrowhem::search::check_search` meets its contract: the first of two checks that refuses.
+-- Assumes nothing.
+use mathlib.Core.Path.{sym, _∙_}
+use Rattle.sparrowhem.specs.Search.{searchCheck}
+use borrow.Author.Needs.{needs}
+use Rattle.sparrowhem.proofs.search.check_search.Statement.{statement}
+use Rattle.sparrowhem.proofs.search.check_search.Tie as tie
+
+check-given-requires : tie.Need-check-given-requires
+check-given-requires c κs = search needs
+
+enum-known-r : tie.Need-enum-known-r
+enum-known-r c = search needs
+
+enum-told : tie.Need-enum-told
+enum-told c = search needs
+
+check-pattern-requires : tie.Need-check-pattern-requires
+check-pattern-requires c κs = search needs
+
+returns : tie.Need-returns
+unfolding searchCheck
+returns c = simp (sym (c .before .before .before .check-given .ensures) ∙ c .before .r .given .1)
+
+returns-2 : tie.Need-returns-2
+unfolding searchCheck
+returns-2 c = simp (sym (c .before .before .before .check-given .ensures) ∙ c .before .enum-told .given .1, c .check-pattern .ensures)
+
+pub check-search-spec : {M : Type 1} → statement M
+check-search-spec =
+    tie.close
+    (tie.spec check-given-requires enum-known-r enum-told check-pattern-requires returns returns-2)

@@ -1,0 +1,67 @@
+// Patterns over a row with its table.
+ghost use mathlib.Core.Path.{_≡_};
+ghost use Rattle.sparrowhem.specs.Search.{searchCheck, Finds, Binds};
+use rows::Check;
+use rows::Refusal;
+
+// What find answers: the number of the matches, or why it refuses.
+pub enum Found {
+    Matches(usize),
+    Refused(Refusal),
+}
+
+// What the variables call answers: whether the pattern matches, or why it refuses.
+pub enum Bound {
+    Matched,
+    Unmatched,
+    Refused(Refusal),
+}
+
+// Refusals 1 to 15.
+fn check_search(arities: &[u16], row: &[u16], table: &[u16], pattern: &[u16]) -> Check
+    ensures { λ r. ⌜ r ≡ searchCheck (now (arities .entry)) (now (row .entry)) (now (table .entry)) (now (pattern .entry)) ⌝ }
+{
+    match tables::check_given(arities, row, table) {
+        Check::Refused(r) => Check::Refused(r),
+        Check::Fine => patterns::check_pattern(arities, pattern),
+    }
+}
+
+// Find: the number of the matches, which stand at the front of `out`, rising, later places stay; or the first refusal,
+// which writes nothing.
+pub fn find(arities: &[u16], row: &[u16], table: &[u16], pattern: &[u16], out: &mut [u16]) -> Found
+    ensures { λ r. ⌜ Finds (now (arities .entry)) (now (row .entry)) (now (table .entry)) (now (pattern .entry)) (now (out .entry)) r (now (out .exit)) ⌝ }
+{
+    match check_search(arities, row, table, pattern) {
+        Check::Refused(r) => Found::Refused(r),
+        Check::Fine => {
+            let count = patterns::list_matches(row, table, pattern, out);
+            if out.len() < count {
+                return Found::Refused(Refusal::OutputShort(count));
+            }
+            Found::Matches(count)
+        }
+    }
+}
+
+// Variables: whether the pattern matches at the position; if so, begin and end of X0 to X15 stand at the front of `out`,
+// later places stay. A refusal writes nothing.
+pub fn variables(arities: &[u16], row: &[u16], table: &[u16], pattern: &[u16], position: usize, out: &mut [u16]) -> Bound
+    ensures { λ r. ⌜ Binds (now (arities .entry)) (now (row .entry)) (now (table .entry)) (now (pattern .entry)) position (now (out .entry)) r (now (out .exit)) ⌝ }
+{
+    match check_search(arities, row, table, pattern) {
+        Check::Refused(r) => Bound::Refused(r),
+        Check::Fine => {
+            if row.len() <= position {
+                return Bound::Refused(Refusal::Position(position));
+            }
+            if out.len() < 32 {
+                return Bound::Refused(Refusal::OutputShort(32));
+            }
+            if patterns::variables_at(row, table, pattern, position, out) {
+                return Bound::Matched;
+            }
+            Bound::Unmatched
+        }
+    }
+}
