@@ -1,11 +1,11 @@
 -- Laws of `spliced` and `renewed`: what a buffer holds when the parts of a new row or table were written into it one by one.
 -- Assumes nothing.
-use Prim.Native.Nat.{ℕ, _+_, _-_, _≤_, max}
+use Prim.Native.Nat.{ℕ, _+_, _-_, _≤_, _<_, max}
 use mathlib.Core.Path.{_≡_, sym, ap, _∙_}
 use mathlib.Core.List.{List, _++_, append-assoc}
 use native.Mathlib.Omega.{arith}
-use lib.ListN.{length, take, drop, replicate, length-append, length-drop, length-replicate}
-use lib.Seq.{take-take, take-add, take-at, drop-at, length-take-le}
+use lib.ListN.{length, take, drop, getD, getD-replicate, List·getD-append, replicate, length-append, length-drop, length-replicate}
+use lib.Seq.{getD-append-add, take-take, take-add, take-at, drop-at, length-take-le}
 use Rattle.rows.specs.Buffers.{written}
 use Rattle.buffers.specs.Renewed.{renewed, spliced}
 use Rattle.buffers.proofs.Written.{length-written, written-left, written-right}
@@ -57,3 +57,23 @@ take-renewed b n x w k e = take-at w _ k e
 pub length-renewed : (b : List ℕ) (n x : ℕ) (w : List ℕ) → n ≤ length b → length w ≤ length b → length (renewed b n x w) ≡ length b
 unfolding renewed
 length-renewed b n x w h r = simp (length-append, length-replicate, length-drop) (omega arith)
+
+-- the places that are freed hold the blank, and later ones stay
+pub renewed-freed : (b : List ℕ) (n x : ℕ) (w : List ℕ) (k : ℕ) → length w ≤ k → k < n → getD (renewed b n x w) k 0 ≡ x
+unfolding renewed
+renewed-freed b n x w k h i =
+    let blanks : List ℕ = replicate (n - length w) x in
+    let e : k ≡ length w + (k - length w) = omega arith in
+    ap (λ (j : ℕ). getD (w ++ (blanks ++ drop (max n (length w)) b)) j 0) e
+    ∙ getD-append-add w (blanks ++ drop (max n (length w)) b) (k - length w) 0
+    ∙ List·getD-append blanks (drop (max n (length w)) b) 0 (k - length w) (omega (arith, length-replicate (n - length w) x))
+    ∙ getD-replicate (n - length w) (k - length w) x 0 (omega arith)
+
+pub renewed-later : (b : List ℕ) (n x : ℕ) (w : List ℕ) (k : ℕ) → length w ≡ k → drop (max n k) (renewed b n x w) ≡ drop (max n k) b
+unfolding renewed
+renewed-later b n x w k e =
+    let blanks : List ℕ = replicate (n - length w) x in
+    let l : length (w ++ blanks) ≡ max n k = simp (length-append, length-replicate) (omega arith) in
+    ap (drop (max n k)) (sym (append-assoc w blanks (drop (max n (length w)) b)))
+    ∙ drop-at (w ++ blanks) (drop (max n (length w)) b) (max n k) l
+    ∙ ap (λ (j : ℕ). drop (max n j) b) e

@@ -173,3 +173,12 @@ put-ranked A ok u ru (grow s cs f) (suc p) r =
     below p (size cs)
     (λ i. rw (lt-ltb p (size cs) i) (r .0, put-count u cs p ∙ r .1, put-ranked A ok u ru cs p (r .2), r .3))
     (λ i. rw (le-ltb p (size cs) i) (r .0, r .1, r .2, put-ranked A ok u ru f (p - size cs) (r .3)))
+
+-- and so is each of its subtrees
+pub at-ranked : (A : List ℕ) (ok : ℕ → Bool) (f : Forest) (p : ℕ) → p < size f → Ranked A ok f → Ranked A ok (single (subtreeAt f p))
+unfolding Ranked
+at-ranked A ok =
+    put-ind (λ f p. Ranked A ok f → Ranked A ok (single (subtreeAt f p)))
+    (λ s cs f r. rw (at-root s cs f) (r .0, r .1, r .2, tt))
+    (λ s cs f p i ih r. rw (at-in s cs f p i) (ih (r .2)))
+    (λ s cs f p i h ih r. rw (at-right s cs f p i) (ih (r .3)))

@@ -2,4 +2,6 @@ pub mod Building
 pub mod Handing
 pub mod Replacing
 pub mod Searching
+pub mod Holding
+pub mod EditPromises
 pub mod Promises

@@ -4,6 +4,7 @@ use Prim.Native.Nat.{ℕ, _+_, _-_, _≤_, _<_, min}
 use mathlib.Core.Path.{_≡_, refl, sym, ap, _∙_}
 use mathlib.Core.List.{List}
 use native.Mathlib.Omega.{arith}
+use borrow.Author.Tests.{le-ltb}
 use lib.ListN.{length, take, getD}
 use lib.Seq.{length-take-le}
 use Rattle.rows.specs.Tree.{size}
@@ -20,7 +21,7 @@ use Rattle.tables.proofs.Given.{both-fine, sizes-fits, check-right, right-bound
 use Rattle.edits.specs.Put.{changed}
 use Rattle.edits.specs.Replace.{grown, Replaceable}
 use Rattle.edits.proofs.Put.{below}
-use Rattle.edits.proofs.Place.{position-past, grown-fine}
+use Rattle.edits.proofs.Place.{position-past, position-in, grown-fits, grown-fine}
 use Rattle.edits.proofs.Replace.{new-length}
 use Rattle.sparrowhem.specs.Edit.{heldCheck, replaceCheck}
 use Rattle.sparrowhem.proofs.Handing.{position-fine}
@@ -83,6 +84,14 @@ held-end A row t n p h i =
     omega (arith, right-bounds A (take n row) t (h .right) p (omega arith))
 
 -- all refusals together leave what a replacement asks for
+pub replace-held : (A row t : List ℕ) (n : ℕ) (v : List ℕ) (p : ℕ) → replaceCheck A row t n v p ≡ Fine → heldCheck A row t n ≡ Fine
+unfolding replaceCheck
+replace-held A row t n v p e =
+    both-fine (heldCheck A row t n)
+    (replacement A v then position n p then grown (size (changed A (take n row) p v)) (min (length row) (length t)))
+    e
+    .0
+
 pub replace-able : (A row t : List ℕ) (n : ℕ) (v : List ℕ) (p : ℕ) → replaceCheck A row t n v p ≡ Fine → Replaceable A row t n v p
 unfolding replaceCheck
 replace-able A row t n v p e =
@@ -106,3 +115,16 @@ replace-able A row t n v p e =
 -- the old row and the new one are within the sizes
 pub able-sizes : (A row t : List ℕ) (n : ℕ) (v : List ℕ) (p m : ℕ) → Replaceable A row t n v p → m ≡ size (changed A (take n row) p v) → (m ≤ 16384) × (n ≤ 16384)
 able-sizes A row t n v p m r e = (omega (arith, r .most), omega (arith, r .right .sized .most, length-take-le n row (r .within)))
+
+-- and nothing is refused where it is there
+pub replacement-whole : (A v : List ℕ) → 0 < length v → length v ≤ 16384 → Accepted A v → replacement A v ≡ Fine
+unfolding replacement reading sized
+replacement-whole A v some most a = simp (le-ltb (length v) 1 (omega arith), le-ltb 16384 (length v) most, a)
+
+pub replace-goes : (A row t : List ℕ) (n : ℕ) (v : List ℕ) (p : ℕ) → heldCheck A row t n ≡ Fine → replacement A v ≡ Fine → p < n
+    → size (changed A (take n row) p v) ≤ min 16384 (min (length row) (length t)) → replaceCheck A row t n v p ≡ Fine
+unfolding replaceCheck
+replace-goes A row t n v p held whole i room =
+    simp (held, whole)
+    (position-in n p (grown (size (changed A (take n row) p v)) (min (length row) (length t))) i
+    ∙ grown-fits (size (changed A (take n row) p v)) (min (length row) (length t)) room)
