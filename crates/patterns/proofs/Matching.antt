@@ -130,9 +130,10 @@ module _ (A w e q : List ℕ) (c : Checked A w e q) where
 
     -- THE WALK IS RIGHT: it comes through exactly if some choice turns the pattern into the subtree
     pub right : (comesThrough w e q p ≡ true) ↔ MatchesAt A w q p
-    right =
-        (λ y. (let r = came (walk w e q p unmarked) y in walk-matches (r .0) (r .1) (r .2)),
-        λ m. ap through (walk-comes (m .choice .forVariable) (matches-fits (treeOf A q) under m) .2))
+    right = (
+      λ y. (let r = came (walk w e q p unmarked) y in walk-matches (r .0) (r .1) (r .2)),
+      λ m. ap through (walk-comes (m .choice .forVariable) (matches-fits (treeOf A q) under m) .2),
+    )
 
     -- where it misses, there is no match
     pub missed : (k : ℕ) → walk w e q p unmarked ≡ misses k → MatchesAt A w q p → ⊥

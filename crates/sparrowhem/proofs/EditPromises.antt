@@ -1,14 +1,16 @@
 -- The promises of specs/EditPromises, each with its proof.
 -- Assumes nothing.
-use Prim.Native.Nat.{ℕ, _+_, _<_, max}
-use mathlib.Core.Path.{_≡_, refl, sym, ap, ap₂, _∙_}
+use Prim.Native.Nat.{ℕ, _+_, _-_, _<_, max}
+use mathlib.Core.Path.{_≡_, refl, sym, ap, ap₂, _∙_, subst}
 use mathlib.Core.List.{List, [], _∷_}
 use native.Mathlib.Omega.{arith}
+use mathlib.Core.Logic.{_↔_}
+use borrow.Author.Tests.{ne-eqb}
 use lib.ListN.{length, getD, take, drop}
 use lib.Seq.{length-take-le}
 use lib.IntN.{ℤ, pos, _-ℤ_}
 use Rattle.rows.specs.Tree.{Forest, Tree, IsRow, single, size, prefix, ends, subtreeAt}
-use Rattle.rows.specs.Parse.{parse, treeOf, table}
+use Rattle.rows.specs.Parse.{parse, treeOf, table as tableOf}
 use Rattle.rows.specs.Row.{allowed}
 use Rattle.rows.specs.declared.Leaves.the-variants.{Symbols}
 use Rattle.rows.specs.Refusals.{replacement, position}
@@ -17,15 +19,19 @@ use Rattle.rows.proofs.Tree.{length-prefix, length-ends}
 use Rattle.rows.proofs.Parse.{prefix-parse, size-parse}
 use Rattle.rows.proofs.Accept.{ranked-parse, tree-row, whole-of-row}
 use Rattle.buffers.proofs.Renewed.{renewed-freed, renewed-later}
+use Rattle.patterns.specs.Pattern.{Matches}
+use Rattle.patterns.specs.Answers.{spans}
 use Rattle.edits.specs.Put.{put, extent, changed}
 use Rattle.edits.proofs.Put.{put-size, put-below, at-ranked, at-fits, size-single}
+use Rattle.edits.proofs.Ends.{end-at, nests}
 use Rattle.edits.proofs.Positions.{at-left, at-behind, put-back, put-swap}
 use Rattle.sparrowhem.specs.declared.edit.Replaced.{Replaced}
 use Rattle.sparrowhem.specs.declared.edit.Replaced.the-variants.{Done, Refused}
 use Rattle.sparrowhem.specs.Edit.{replaceCheck, Replacement}
 use Rattle.sparrowhem.specs.Runs.{State, Call, Run, edit, edits, Holds, lengthAfter}
-use Rattle.sparrowhem.specs.EditPromises.{Replace-settled, Replace-refused, Replace-writes, Any-run, Putting-back, Either-order, Others-stay}
+use Rattle.sparrowhem.specs.EditPromises.{Replace-settled, Replace-refused, Replace-writes, Any-run, Putting-back, Either-order, Others-stay, movedSpan, Patterns-stay}
 use Rattle.sparrowhem.proofs.Replacing.{replace-held, replace-able, able-sizes, replacement-whole, replace-goes}
+use Rattle.sparrowhem.proofs.Spanning.{spans-stay, map-same}
 use Rattle.sparrowhem.proofs.Holding.{Went, goes, went, stayed, same-lengths, holds-changed, held-once, built-holds}
 
 pub replace-settled : Replace-settled
@@ -73,6 +79,61 @@ others-stay A row t n v p m change row′ t′ o =
       right = λ q q′ h i e. ap (λ (f : Forest). subtreeAt f q′) now ∙ at-behind u G p (omega arith) q q′ (h, omega arith, omega arith);
     }
 
+-- ---- patterns
+
+-- the entry at k, and at k′ where the same subtree stands afterwards
+entries : (A w w′ : List ℕ) (k k′ : ℕ) → k < length w → k′ < length w′ → subtreeAt (parse A w′) k′ ≡ subtreeAt (parse A w) k
+    → (getD (tableOf A w) k 0 ≡ k + extent (parse A w) k) × (getD (tableOf A w′) k′ 0 ≡ k′ + extent (parse A w) k)
+unfolding tableOf
+entries A w w′ k k′ i j e =
+    let x = ap (λ (t : Tree). size (single t)) e in (
+      end-at (parse A w) k (omega (arith, size-parse A w)) 0 ∙ omega arith,
+      end-at (parse A w′) k′ (omega (arith, size-parse A w′)) 0 ∙ omega arith,
+    )
+
+moved-some : (n m k : ℕ) → 0 < k → movedSpan n m k ≡ k + m - n
+moved-some n m k h = simp (ne-eqb k 0 (λ e. omega arith))
+
+same-matches : (P t u : Tree) → t ≡ u → Matches P t ↔ Matches P u
+same-matches P t u e = (λ x. subst (Matches P) e x, λ x. subst (Matches P) (sym e) x)
+
+pub patterns-stay : Patterns-stay
+patterns-stay A row t n v p m change row′ t′ o Q =
+    let w = went A row t n v p row′ t′ m change o in
+    let a = at-position A row t n v p m change row′ t′ w in
+    let able = replace-able A row t n v p (w .fine) in
+    let G = parse A (take n row) in
+    let P = treeOf A Q in
+    let stays = others-stay A row t n v p m change row′ t′ o in
+    let here : ℕ → ℕ = λ k. k in
+    let moved : ℕ → ℕ = λ k. k + m - n in
+    let ln : length (take n row) ≡ n = length-take-le n row (able .within) in
+    let lengths = same-lengths A row t n v p row′ t′ m change w in
+    let lm : length (take m row′) ≡ m = length-take-le m row′ (omega (arith, w .length-is, able .row-room)) in
+    let pm : p < m = omega (arith, w .length-is, put-below (treeOf A v) G p (omega arith)) in
+    record {
+      left =
+          λ q h. (
+            same-matches P _ _ (stays .left q h),
+            spans-stay A (take n row) (take m row′) here here refl Q q q (stays .left q h) (λ k b. refl)
+                (λ k b c.
+                let d = nests G q (omega arith) k b c in
+                let e = entries A (take n row) (take m row′) k k (omega arith) (omega arith) (stays .left k (omega arith)) in
+                (refl, e .1 ∙ sym (e .0)))
+                ∙ map-same here (spans A (take n row) Q q) (λ k. refl),
+          );
+      right =
+          λ q q′ h i r. (
+            same-matches P _ _ (stays .right q q′ h i r),
+            spans-stay A (take n row) (take m row′) moved (movedSpan n m) refl Q q q′ (stays .right q q′ h i r) (λ k b. omega arith)
+                (λ k b c.
+                let f = at-fits G q (omega arith) in
+                let e = entries A (take n row) (take m row′) k (k + m - n) (omega arith) (omega arith) (stays .right k (k + m - n) (omega arith) (omega arith) (omega arith)) in
+                let some = size-single (subtreeAt G p) in
+                (moved-some n m k (omega arith), e .1 ∙ sym (moved-some n m (getD (tableOf A (take n row)) k 0) (omega arith) ∙ omega arith))),
+          );
+    }
+
 -- ---- runs
 
 -- a call leads from a state that holds a tree to one that holds the edited tree
@@ -106,7 +167,7 @@ any-run A row t table n h b calls s r =
 -- ---- putting back
 
 pub putting-back : Putting-back
-unfolding table
+unfolding tableOf
 putting-back A row t n v p m change row₁ t₁ r row₂ t₂ o₁ o₂ =
     let ok = allowed Symbols A in
     let w = went A row t n v p row₁ t₁ m change o₁ in

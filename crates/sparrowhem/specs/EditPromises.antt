@@ -1,14 +1,18 @@
 -- The promises on replace, in document 01's words. Each is proved in proofs/EditPromises, under the same name in small
 -- letters.
-use Prim.Native.Nat.{ℕ, _+_, _<_, _≤_, max}
+use Prim.Native.Nat.{ℕ, _+_, _-_, _<_, _≤_, max}
 use mathlib.Core.Path.{_≡_}
-use mathlib.Core.List.{List}
+use mathlib.Core.List.{List, map}
+use mathlib.Core.Logic.{_↔_}
+use lib.Dec.{eqb}
 use lib.ListN.{length, getD, take, drop}
 use lib.IntN.{ℤ, pos, _-ℤ_}
 use Rattle.rows.specs.Tree.{single, prefix, subtreeAt}
 use Rattle.rows.specs.Parse.{parse}
+use Rattle.rows.specs.Row.{pick}
 use Rattle.rows.specs.declared.Refusal.{Refusal}
 use Rattle.rows.specs.declared.Check.the-variants.{Fine}
+use Rattle.patterns.specs.Answers.{MatchesAt, spans}
 use Rattle.edits.specs.Put.{extent, changed}
 use Rattle.sparrowhem.specs.declared.edit.Replaced.{Replaced}
 use Rattle.sparrowhem.specs.declared.edit.Replaced.the-variants.{Done, Refused}
@@ -81,3 +85,19 @@ pub record Stays (A row : List ℕ) (n p m : ℕ) (row′ : List ℕ) : Type 0 w
 abbrev pub Others-stay : Type 0
 Others-stay = (A row table : List ℕ) (n : ℕ) (v : List ℕ) (p m : ℕ) (change : ℤ) (row′ table′ : List ℕ)
     → Replacement A row table n v p (Done m change) row′ table′ → Stays A row n p m row′
+
+-- For every pattern Q: such a subtree keeps its answer, matched or not, and its variables. Their spans are the same if it stands to
+-- the left, else moved by the change in length; an absent variable stays 0, 0.
+abbrev pub movedSpan : ℕ → ℕ → ℕ → ℕ
+movedSpan n m x = pick (eqb x 0) 0 (x + m - n)
+
+pub record Answers-stay (A row : List ℕ) (n p m : ℕ) (row′ Q : List ℕ) : Type 0 where
+  pub left : (q : ℕ) → q + extent (parse A (take n row)) q ≤ p
+      → (MatchesAt A (take m row′) Q q ↔ MatchesAt A (take n row) Q q) × (spans A (take m row′) Q q ≡ spans A (take n row) Q q)
+  pub right : (q q′ : ℕ) → p + extent (parse A (take n row)) p ≤ q → q < n → q′ + n ≡ q + m
+      → (MatchesAt A (take m row′) Q q′ ↔ MatchesAt A (take n row) Q q)
+      × (spans A (take m row′) Q q′ ≡ map (movedSpan n m) (spans A (take n row) Q q))
+
+abbrev pub Patterns-stay : Type 0
+Patterns-stay = (A row table : List ℕ) (n : ℕ) (v : List ℕ) (p m : ℕ) (change : ℤ) (row′ table′ : List ℕ)
+    → Replacement A row table n v p (Done m change) row′ table′ → (Q : List ℕ) → Answers-stay A row n p m row′ Q
