@@ -6,7 +6,7 @@
 #include <string.h>
 
 typedef struct {
-    uint32_t refusal;
+    uint64_t refusal;
     int32_t change;
     uint64_t place;
     uint64_t count;

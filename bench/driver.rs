@@ -1,7 +1,9 @@
-//! Times the library's calls beside the same calls in plain Rust and plain C, in one run, and prints one table.
-//! Usage: driver [quick] > table. Progress goes to standard error.
+//! Times the library's calls beside the same calls in plain Rust and plain C, in one run.
+//! Usage: driver FOLDER [quick]. Writes FOLDER/measured.md (tables of ratios) and FOLDER/benchmarks.svg (time against
+//! length); progress goes to standard error.
 
 mod baseline;
+mod picture;
 
 use std::hint::black_box;
 use std::time::Instant;
@@ -9,7 +11,7 @@ use std::time::Instant;
 #[repr(C)]
 #[derive(Clone, Copy, Debug, PartialEq)]
 pub struct Answer {
-    refusal: u32,
+    refusal: u64,
     change: i32,
     place: u64,
     count: u64,
@@ -52,7 +54,7 @@ const ALL: [By; 3] = [By::Library, By::Rust, By::C];
 fn answered(r: Result<(u64, i32), baseline::Refusal>) -> Answer {
     match r {
         Ok((count, change)) => Answer { refusal: 0, change, place: 0, count },
-        Err((refusal, place)) => Answer { refusal, change: 0, place, count: 0 },
+        Err((refusal, place)) => Answer { refusal: refusal as u64, change: 0, place, count: 0 },
     }
 }
 
@@ -218,10 +220,26 @@ fn time(rounds: usize, mut call: impl FnMut(By) -> Answer) -> [f64; 3] {
     times.map(median)
 }
 
-/// One line of the table: call, what it is called on, row shape, length, and the three times.
-fn report(call: &str, on: &str, shape: &str, n: usize, [library, rust, c]: [f64; 3]) {
-    eprintln!("{call}, {on}, {shape}, {n}");
-    println!("{call}\t{on}\t{shape}\t{n}\t{library:.0}\t{rust:.0}\t{c:.0}\t{:.2}\t{:.2}", library / rust, library / c);
+/// What was measured: the call, what it was called on, the row's shape and length, nanoseconds of library, Rust and C.
+pub struct Measured {
+    pub call: &'static str,
+    pub on: String,
+    pub shape: &'static str,
+    pub n: usize,
+    pub ns: [f64; 3],
+}
+
+struct Bench {
+    rounds: usize,
+    measured: Vec<Measured>,
+}
+
+impl Bench {
+    fn add(&mut self, call: &'static str, on: &str, shape: &'static str, n: usize, f: impl FnMut(By) -> Answer) {
+        let ns = time(self.rounds, f);
+        eprintln!("{call}, {on}, {shape}, {n}: {:.0} ns, {:.2} of Rust, {:.2} of C", ns[0], ns[0] / ns[1], ns[0] / ns[2]);
+        self.measured.push(Measured { call, on: on.to_string(), shape, n, ns });
+    }
 }
 
 // ---- what is called
@@ -235,6 +253,7 @@ fn patterns(row: &[u16], table: &[u16]) -> Vec<(&'static str, Vec<u16>)> {
     let mut all = vec![
         ("rare root", std::iter::once(15).chain(std::iter::repeat(65535).take(14)).collect()),
         ("common root", with_root),
+        ("repeated variables", vec![TWO, 65280, 65280]),
         ("bare S", vec![65535]),
     ];
     if let Some(p) = stretch {
@@ -243,69 +262,75 @@ fn patterns(row: &[u16], table: &[u16]) -> Vec<(&'static str, Vec<u16>)> {
     all
 }
 
-fn main() {
-    let quick = std::env::args().any(|a| a == "quick");
-    let rounds = if quick { 15 } else { 101 };
-    let sizes: &[usize] = if quick { &[4096, 16384] } else { &[16, 256, 4096, 16384] };
+/// The calls on one row.
+fn row_of(bench: &mut Bench, name: &'static str, n: usize) {
     let arities = alphabet();
-    println!("call\ton\trow\tlength\tlibrary ns\tRust ns\tC ns\tlibrary/Rust\tlibrary/C");
-    for &n in sizes {
-        for name in SHAPES {
-            let row = shape(name, n);
-            let right = table_of(&row);
-            let mut table = right.clone();
-            report("build", "accepted", name, n, time(rounds, |by| build(by, &arities, &row, &mut table)));
-            let mut out = vec![0; n];
-            for (on, pattern) in patterns(&row, &right) {
-                report("find", on, name, n, time(rounds, |by| find(by, &arities, &row, &right, &pattern, &mut out)));
-            }
-            let repeated = [TWO, 65280, 65280];
-            report("find", "repeated variables", name, n, time(rounds, |by| find(by, &arities, &row, &right, &repeated, &mut out)));
-            let mut spans = [0; 32];
-            report("variables", "bare X0", name, n, time(rounds, |by| variables(by, &arities, &row, &right, &[65280], 0, &mut spans)));
-            report("plain", "bare X0", name, n, time(rounds, |by| plain_match(by, &arities, &row, &[65280], 0)));
-            replacements(rounds, name, &row, &right);
-            refusals(rounds, name, &row, &right);
-        }
+    let row = shape(name, n);
+    let right = table_of(&row);
+    let mut table = right.clone();
+    let mut out = vec![0; n];
+    bench.add("build", "accepted", name, n, |by| build(by, &arities, &row, &mut table));
+    for (on, pattern) in patterns(&row, &right) {
+        bench.add("find", on, name, n, |by| find(by, &arities, &row, &right, &pattern, &mut out));
     }
+    let mut spans = [0; 32];
+    bench.add("variables", "bare X0", name, n, |by| variables(by, &arities, &row, &right, &[65280], 0, &mut spans));
+    bench.add("plain matcher", "bare X0", name, n, |by| plain_match(by, &arities, &row, &[65280], 0));
+    let last = (0..n).rev().find(|&p| row[p] > 1).unwrap_or(0);
+    let own = &row[last..right[last] as usize];
+    bench.add("plain matcher", "last node", name, n, |by| plain_match(by, &arities, &row, own, last));
 }
 
-/// A replacement and putting back, together: each leaves the row as it was.
-fn replacements(rounds: usize, name: &str, row: &[u16], right: &[u16]) {
+/// A replacement and putting back, together: each pair leaves the row as it was.
+fn replacements(bench: &mut Bench, name: &'static str, n: usize) {
     let arities = alphabet();
-    let n = row.len();
+    let row = shape(name, n);
+    let right = table_of(&row);
     let leaves: Vec<usize> = (0..n).filter(|&p| row[p] < 2).collect();
     for (place, p) in [("front", leaves[0]), ("middle", leaves[leaves.len() / 2]), ("end", leaves[leaves.len() - 1])] {
         for (on, new) in [("same size", vec![1]), ("grow and shrink", vec![ONE, ONE, TWO, 0, 1])] {
-            let mut r = row.to_vec();
-            let mut t = right.to_vec();
+            let (mut r, mut t) = (row.clone(), right.clone());
             r.resize(n + 8, 0);
             t.resize(n + 8, 0);
-            if n + new.len() > 16384 + 1 {
-                continue;
-            }
-            let old = row[p];
-            let times = time(rounds, |by| {
+            let old = [row[p]];
+            bench.add("replace and back", &format!("{on}, {place}"), name, n, |by| {
                 let there = replace(by, &arities, &mut r, &mut t, n, &new, p);
-                replace(by, &arities, &mut r, &mut t, there.count as usize, &[old], p)
+                replace(by, &arities, &mut r, &mut t, there.count as usize, &old, p)
             });
-            report("replace and back", &format!("{on}, {place}"), name, n, times);
         }
     }
 }
 
 /// Refused input: a bad last number, and a stale first and last entry.
-fn refusals(rounds: usize, name: &str, row: &[u16], right: &[u16]) {
+fn refusals(bench: &mut Bench, name: &'static str, n: usize) {
     let arities = alphabet();
-    let n = row.len();
-    let mut bad = row.to_vec();
+    let row = shape(name, n);
+    let right = table_of(&row);
+    let mut bad = row.clone();
     bad[n - 1] = 999;
-    let mut table = right.to_vec();
-    let mut out = vec![0; n];
-    report("build", "bad last number", name, n, time(rounds, |by| build(by, &arities, &bad, &mut table)));
-    for (on, p) in [("stale first entry", 0), ("stale last entry", n - 1)] {
-        let mut stale = right.to_vec();
+    let (mut table, mut out) = (right.clone(), vec![0; n]);
+    bench.add("build", "refused, bad last number", name, n, |by| build(by, &arities, &bad, &mut table));
+    for (on, p) in [("refused, stale first entry", 0), ("refused, stale last entry", n - 1)] {
+        let mut stale = right.clone();
         stale[p] ^= 1;
-        report("find", on, name, n, time(rounds, |by| find(by, &arities, row, &stale, &[65535], &mut out)));
+        bench.add("find", on, name, n, |by| find(by, &arities, &row, &stale, &[65535], &mut out));
     }
+}
+
+fn main() {
+    let arguments: Vec<String> = std::env::args().skip(1).collect();
+    let folder = std::path::Path::new(arguments.first().expect("usage: driver FOLDER [quick]"));
+    let quick = arguments.iter().any(|a| a == "quick");
+    let sizes: &[usize] = if quick { &[4096, 16384] } else { &[16, 256, 4096, 16384] };
+    let mut bench = Bench { rounds: if quick { 15 } else { 101 }, measured: Vec::new() };
+    for &n in sizes {
+        for name in SHAPES {
+            row_of(&mut bench, name, n);
+            // room for the longer row within 16,384
+            replacements(&mut bench, name, n.min(16384 - 8));
+            refusals(&mut bench, name, n);
+        }
+    }
+    std::fs::write(folder.join("measured.md"), picture::tables(&bench.measured)).expect("measured.md");
+    std::fs::write(folder.join("benchmarks.svg"), picture::lines(&bench.measured)).expect("benchmarks.svg");
 }

@@ -46,7 +46,14 @@ pub fn find(arities: &[u16], row: &[u16], table: &[u16], pattern: &[u16], out: &
 
 // Variables: whether the pattern matches at the position; if so, begin and end of X0 to X15 stand at the front of `out`,
 // later places stay. A refusal writes nothing.
-pub fn variables(arities: &[u16], row: &[u16], table: &[u16], pattern: &[u16], position: usize, out: &mut [u16]) -> Bound
+pub fn variables(
+    arities: &[u16],
+    row: &[u16],
+    table: &[u16],
+    pattern: &[u16],
+    position: usize,
+    out: &mut [u16],
+) -> Bound
     ensures { λ r. ⌜ Binds (now (arities .entry)) (now (row .entry)) (now (table .entry)) (now (pattern .entry)) position (now (out .entry)) r (now (out .exit)) ⌝ }
 {
     match check_search(arities, row, table, pattern) {
