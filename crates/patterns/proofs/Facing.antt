@@ -6,11 +6,11 @@ use mathlib.Core.List.{List, [], _∷_, _++_, append-assoc, append-nil}
 use mathlib.Core.Bool.{Bool, true, false}
 use native.Mathlib.Omega.{arith}
 use native.Mathlib.Numerals.{add-one}
-use native.Mathlib.Decide.{decLt}
+use native.Mathlib.Decide.{decLt, ℕ-discrete}
 use borrow.Author.Tests.{eq-eqb, eqb-true, eqb-false}
 use lib.Dec.{eqb, ltb→lt}
-use lib.ListN.{getD, length, set, List·getD-eq-default}
-use lib.Seq.{getD-set-same, getD-set-other}
+use lib.ListN.{getD, length, set, length-append, List·getD-append, List·getD-eq-default}
+use lib.Seq.{getD-set-same, getD-set-other, getD-append-add}
 use Rattle.rows.specs.Tree.{Forest, Forest.none, Forest.grow, Tree, single, size, count, prefix, Ranked, subtreeAt}
 use Rattle.rows.specs.Parse.{parse, treeOf, table}
 use Rattle.rows.specs.Row.{pick, symbol, allowed}
@@ -19,7 +19,7 @@ use Rattle.rows.specs.declared.Leaves.the-variants.{Blanks, Symbols}
 use Rattle.rows.proofs.Accept.{enough}
 use Rattle.tables.proofs.Given.{right-entry}
 use Rattle.patterns.specs.Pattern.{leaf}
-use Rattle.patterns.specs.Answers.{faced, isLeaf, span, spansBelow, spans, Checked, Binds}
+use Rattle.patterns.specs.Answers.{faced, facing, variableIs, span, spansBelow, spans, Checked, Binds}
 use Rattle.patterns.specs.Walk.{sameSymbol, agreeing, Outcome, Outcome.misses, Outcome.reaches, meets, takes, steps, onward, walk, unmarked, markBegin, markEnd, markSpans, MarksIn}
 use Rattle.patterns.specs.declared.Leaf.{Leaf}
 use Rattle.patterns.specs.declared.Leaf.the-variants.{Plain, Blank, Variable}
@@ -48,53 +48,90 @@ length-trace e (s ∷ q) j = ap suc (length-trace e q (past e j (leaf s)))
 unfoldable pub seat : ℕ → List ℕ → List ℕ → ℕ
 seat i [] ps = 0
 seat i (s ∷ q) [] = 0
-seat i (s ∷ q) (p ∷ ps) = pick (isLeaf i (leaf s)) (suc p) (seat i q ps)
+seat i (s ∷ q) (p ∷ ps) = pick (variableIs i (leaf s)) (suc p) (seat i q ps)
 
 pub span-seat : (t : List ℕ) (i : ℕ) (q ps : List ℕ) → span t i q ps ≡ markBegin (seat i q ps) ∷ markEnd t (seat i q ps) ∷ []
 unfolding span seat
 span-seat t i [] ps = refl
 span-seat t i (s ∷ q) [] = refl
-span-seat t i (s ∷ q) (p ∷ ps) = go (isLeaf i (leaf s)) (span-seat t i q ps)
+span-seat t i (s ∷ q) (p ∷ ps) = go (variableIs i (leaf s)) (span-seat t i q ps)
   where
     go : (b : Bool) → span t i q ps ≡ markBegin (seat i q ps) ∷ markEnd t (seat i q ps) ∷ []
         → pick b (p ∷ getD t p 0 ∷ []) (span t i q ps) ≡ markBegin (pick b (suc p) (seat i q ps)) ∷ markEnd t (pick b (suc p) (seat i q ps)) ∷ []
     go true h = refl
     go false h = h
 
--- a variable that stands in the pattern has a first place, and one that does not has none
+-- a variable that stands in the pattern has a first place
 pub seat-some : (i : ℕ) (q ps : List ℕ) (k : ℕ) → k < length q → length q ≤ length ps → leaf (getD q k 0) ≡ Variable i → (a : ℕ) × (seat i q ps ≡ suc a)
 unfolding seat
 seat-some i [] ps k h n z = absurd (omega arith)
 seat-some i (s ∷ q) [] k h n z = absurd (omega arith)
 seat-some i (s ∷ q) (p ∷ ps) zero h n z = (p, rw (z, eq-eqb i i refl) refl)
-seat-some i (s ∷ q) (p ∷ ps) (suc k) h n z = go (isLeaf i (leaf s)) (seat-some i q ps k (omega arith) (omega arith) z)
+seat-some i (s ∷ q) (p ∷ ps) (suc k) h n z = go (variableIs i (leaf s)) (seat-some i q ps k (omega arith) (omega arith) z)
   where
     go : (b : Bool) → (a : ℕ) × (seat i q ps ≡ suc a) → (a : ℕ) × (pick b (suc p) (seat i q ps) ≡ suc a)
     go true r = (p, refl)
     go false r = r
 
-is-variable : (i : ℕ) (l : Leaf) → isLeaf i l ≡ true → l ≡ Variable i
+is-variable : (i : ℕ) (l : Leaf) → variableIs i l ≡ true → l ≡ Variable i
 is-variable i Plain z = let x : _≡_ {A = ℕ} 0 1 = cc in absurd (omega arith)
 is-variable i Blank z = let x : _≡_ {A = ℕ} 0 1 = cc in absurd (omega arith)
 is-variable i (Variable k) z = ap Variable (eqb-true k i z)
 
+pub seat-first : (i : ℕ) (q ps : List ℕ) (k : ℕ) → k < length q → length q ≤ length ps → leaf (getD q k 0) ≡ Variable i
+    → ((m : ℕ) → m < k → leaf (getD q m 0) ≡ Variable i → ⊥) → seat i q ps ≡ suc (getD ps k 0)
+unfolding seat
+seat-first i [] ps k h n z f = absurd (omega arith)
+seat-first i (s ∷ q) [] k h n z f = absurd (omega arith)
+seat-first i (s ∷ q) (p ∷ ps) zero h n z f = rw (z, eq-eqb i i refl) refl
+seat-first i (s ∷ q) (p ∷ ps) (suc k) h n z f =
+    go (variableIs i (leaf s)) refl (seat-first i q ps k (omega arith) (omega arith) z (λ m l. f (suc m) (omega arith)))
+  where
+    go : (b : Bool) → variableIs i (leaf s) ≡ b → seat i q ps ≡ suc (getD ps k 0) → pick b (suc p) (seat i q ps) ≡ suc (getD ps k 0)
+    go true y r = absurd (f 0 (omega arith) (is-variable i (leaf s) y))
+    go false y r = r
+
+-- one that does not has none
 pub seat-none : (i : ℕ) (q ps : List ℕ) → ((k : ℕ) → k < length q → leaf (getD q k 0) ≡ Variable i → ⊥) → seat i q ps ≡ 0
 unfolding seat
 seat-none i [] ps f = refl
 seat-none i (s ∷ q) [] f = refl
-seat-none i (s ∷ q) (p ∷ ps) f = go (isLeaf i (leaf s)) refl (seat-none i q ps (λ k h. f (suc k) (omega arith)))
+seat-none i (s ∷ q) (p ∷ ps) f = go (variableIs i (leaf s)) refl (seat-none i q ps (λ k h. f (suc k) (omega arith)))
   where
-    go : (b : Bool) → isLeaf i (leaf s) ≡ b → seat i q ps ≡ 0 → pick b (suc p) (seat i q ps) ≡ 0
+    go : (b : Bool) → variableIs i (leaf s) ≡ b → seat i q ps ≡ 0 → pick b (suc p) (seat i q ps) ≡ 0
     go true z h = absurd (f 0 (omega arith) (is-variable i (leaf s) z))
     go false z h = h
+
+-- the spans, variable by variable
+length-span : (t : List ℕ) (i : ℕ) (q ps : List ℕ) → length (span t i q ps) ≡ 2
+length-span t i q ps = ap length (span-seat t i q ps)
+
+pub length-spans : (t : List ℕ) (n : ℕ) (q ps : List ℕ) → length (spansBelow t n q ps) ≡ n + n
+unfolding spansBelow
+length-spans t zero q ps = refl
+length-spans t (suc n) q ps = length-append (spansBelow t n q ps) (span t n q ps) ∙ omega (arith, length-spans t n q ps, length-span t n q ps)
+
+-- number k of the span of variable i
+pub spans-at : (t : List ℕ) (i n : ℕ) (q ps : List ℕ) (k : ℕ) → i < n → k < 2 → getD (spansBelow t n q ps) (i + i + k) 0 ≡ getD (span t i q ps) k 0
+unfolding spansBelow
+spans-at t i zero q ps k h l = absurd (omega arith)
+spans-at t i (suc n) q ps k h l = go (ℕ-discrete i n) (spans-at t i n q ps k)
+  where
+    go : Dec (i ≡ n) → (i < n → k < 2 → getD (spansBelow t n q ps) (i + i + k) 0 ≡ getD (span t i q ps) k 0)
+        → getD (spansBelow t n q ps ++ span t n q ps) (i + i + k) 0 ≡ getD (span t i q ps) k 0
+    go (yes e) ih =
+        let m : i + i + k ≡ length (spansBelow t n q ps) + k = omega (arith, length-spans t n q ps) in
+        rw (m, getD-append-add (spansBelow t n q ps) (span t n q ps) k 0) (ap (λ (x : ℕ). getD (span t x q ps) k 0) (sym e))
+    go (no e) ih =
+        List·getD-append (spansBelow t n q ps) (span t n q ps) 0 (i + i + k) (omega (arith, length-spans t n q ps)) ∙ ih (omega arith) l
 
 -- what a walk does to the mark of variable i, over a row of symbols
 module _ (w e : List ℕ) (small : (j : ℕ) → getD w j 0 < 65280) (i : ℕ) (few : i < 16) where
   -- what a number of the pattern, of kind l, does to it at row position j
   record Touched (l : Leaf) (j : ℕ) (ms : List ℕ) (j′ : ℕ) (ms′ : List ℕ) : Type 0 where
     goes : j′ ≡ past e j l
-    first : isLeaf i l ≡ true → getD ms i 0 ≡ 0 → getD ms′ i 0 ≡ suc j
-    other : isLeaf i l ≡ false → getD ms′ i 0 ≡ getD ms i 0
+    first : variableIs i l ≡ true → getD ms i 0 ≡ 0 → getD ms′ i 0 ≡ suc j
+    other : variableIs i l ≡ false → getD ms′ i 0 ≡ getD ms i 0
 
   abbrev Touches : Leaf → ℕ → List ℕ → Outcome → Type 0
   Touches l j ms (misses x) = Unit {0}
@@ -137,7 +174,7 @@ module _ (w e : List ℕ) (small : (j : ℕ) → getD w j 0 < 65280) (i : ℕ) (
   abbrev Seats : List ℕ → Type 0
   Seats q = (j : ℕ) (ms : List ℕ) (j′ : ℕ) (ms′ : List ℕ) → length ms ≡ 16 → walk w e q j ms ≡ reaches j′ ms′ → getD ms i 0 ≡ 0 → getD ms′ i 0 ≡ seat i q (trace e q j)
 
-  seats-on : (s : ℕ) (q : List ℕ) (j : ℕ) (ms : List ℕ) (j₁ : ℕ) (ms₁ : List ℕ) (j′ : ℕ) (ms′ : List ℕ) (b : Bool) → isLeaf i (leaf s) ≡ b
+  seats-on : (s : ℕ) (q : List ℕ) (j : ℕ) (ms : List ℕ) (j₁ : ℕ) (ms₁ : List ℕ) (j′ : ℕ) (ms′ : List ℕ) (b : Bool) → variableIs i (leaf s) ≡ b
       → Touched (leaf s) j ms j₁ ms₁ → length ms₁ ≡ 16 → walk w e q j₁ ms₁ ≡ reaches j′ ms′ → getD ms i 0 ≡ 0 → Seats q
       → getD ms′ i 0 ≡ pick b (suc j) (seat i q (trace e q (past e j (leaf s))))
   seats-on s q j ms j₁ ms₁ j′ ms′ true z t n y o ih = kept w e q j₁ ms₁ j′ ms′ y .marks i j (t .first z o)
@@ -149,9 +186,9 @@ module _ (w e : List ℕ) (small : (j : ℕ) → getD w j 0 < 65280) (i : ℕ) (
   seats (s ∷ q) j ms j′ ms′ n z o = go (steps w e s j ms) (touches-steps s j ms n) (keeps-steps w e s j ms) z (seats q)
     where
       go : (x : Outcome) → Touches (leaf s) j ms x → Keeps ms x → onward x (λ j₁ ms₁. walk w e q j₁ ms₁) ≡ reaches j′ ms′ → Seats q
-          → getD ms′ i 0 ≡ pick (isLeaf i (leaf s)) (suc j) (seat i q (trace e q (past e j (leaf s))))
+          → getD ms′ i 0 ≡ pick (variableIs i (leaf s)) (suc j) (seat i q (trace e q (past e j (leaf s))))
       go (misses x) t k y ih = let x : _≡_ {A = ℕ} 0 1 = cc in absurd (omega arith)
-      go (reaches j₁ ms₁) t k y ih = seats-on s q j ms j₁ ms₁ j′ ms′ (isLeaf i (leaf s)) refl t (k .many ∙ n) y o ih
+      go (reaches j₁ ms₁) t k y ih = seats-on s q j ms j₁ ms₁ j′ ms′ (variableIs i (leaf s)) refl t (k .many ∙ n) y o ih
 
 -- the walk meets the numbers of the pattern where they face the row
 module _ (A w e : List ℕ) (few : length A ≤ 1024) (v : ℕ → Tree) where
@@ -194,10 +231,6 @@ module _ (A w e : List ℕ) (few : length A ≤ 1024) (v : ℕ → Tree) where
       ap (λ (u : List ℕ). j ∷ u) (faces s cs f t ds g j q r h (leaf s) (kind s) (traced cs) (traced f) (x .0) (x .1))
 
 module _ (A w e q : List ℕ) (c : Checked A w e q) (p : ℕ) (inside : p < length w) where
-  -- the positions that the numbers of the pattern face
-  abbrev pub facing : List ℕ
-  facing = faced p (single (treeOf A q)) (single (subtreeAt (parse A w) p))
-
   small : (j : ℕ) → getD w j 0 < 65280
   small j = go (decLt j (length w))
     where
@@ -206,19 +239,19 @@ module _ (A w e q : List ℕ) (c : Checked A w e q) (p : ℕ) (inside : p < leng
       go (no h) = rw (List·getD-eq-default w 0 {n = j} (omega arith)) (omega arith)
 
   module _ (j : ℕ) (ms : List ℕ) (z : walk w e q p unmarked ≡ reaches j ms) where
-    met : trace e q p ≡ facing
+    met : trace e q p ≡ facing A w q p
     unfolding trace
     met =
         let P = checked-pattern A w e q c in
         ap (λ (u : List ℕ). trace e u p) (sym (append-nil (prefix (single (treeOf A q))) ∙ P .reads))
         ∙ traced A w e (c .few) _ (single (treeOf A q)) (single (subtreeAt (parse A w) p)) p [] (P .ranked) (planted-at A w e (c .row) p inside .stands) (walk-fits A w e q c p inside j ms z)
-        ∙ append-nil facing
+        ∙ append-nil (facing A w q p)
 
-    pub length-facing : length facing ≡ length q
+    pub length-facing : length (facing A w q p) ≡ length q
     length-facing = ap length (sym met) ∙ length-trace e q p
 
     -- each mark is that of the position which the variable's first place faces
-    pub mark-is : (i : ℕ) → i < 16 → getD ms i 0 ≡ seat i q facing
+    pub mark-is : (i : ℕ) → i < 16 → getD ms i 0 ≡ seat i q (facing A w q p)
     mark-is i h = seats w e small i h q p unmarked j ms refl z (unmarked-zero i) ∙ ap (seat i q) met
 
     mark-end : (m : ℕ) → m ≤ length w → markEnd e m ≡ markEnd (table A w) m
@@ -226,14 +259,14 @@ module _ (A w e q : List ℕ) (c : Checked A w e q) (p : ℕ) (inside : p < leng
     mark-end (suc a) h = right-entry A w e (c .row) a (omega arith)
 
     -- so the spans of the marks are those of the variables
-    pub mark-spans : (n : ℕ) → n ≤ 16 → markSpans e ms n ≡ spansBelow (table A w) n q facing
+    pub mark-spans : (n : ℕ) → n ≤ 16 → markSpans e ms n ≡ spansBelow (table A w) n q (facing A w q p)
     unfolding markSpans spansBelow
     mark-spans zero h = refl
     mark-spans (suc n) h =
         ap₂ (λ (x y : List ℕ). x ++ y) (mark-spans n (omega arith))
         (ap (λ (k : ℕ). markBegin (getD ms n 0) ∷ k ∷ []) (mark-end (getD ms n 0) (walk-marks A w e q c p inside j ms z .all n))
         ∙ ap (λ (m : ℕ). markBegin m ∷ markEnd (table A w) m ∷ []) (mark-is n (omega arith))
-        ∙ sym (span-seat (table A w) n q facing))
+        ∙ sym (span-seat (table A w) n q (facing A w q p)))
 
 -- what the variables call answers
 pub binds-none : (w e q : List ℕ) (p : ℕ) (y : List ℕ) (k : ℕ) → p < length w → walk w e q p unmarked ≡ misses k

@@ -23,7 +23,7 @@ use Rattle.rows.proofs.Entry.{entry-first, behind-some}
 use Rattle.tables.proofs.Given.{right-entry}
 use Rattle.patterns.specs.Pattern.{leaf}
 use Rattle.patterns.specs.Answers.{MatchesAt, Checked, Searchable}
-use Rattle.patterns.specs.Walk.{sameSymbol, agreeing, Outcome, Outcome.misses, Outcome.reaches, meets, takes, steps, onward, walk, unmarked, Ends, MarksIn, stepped, marksAfter, Answers}
+use Rattle.patterns.specs.Walk.{sameSymbol, agreeing, Outcome, Outcome.misses, Outcome.reaches, meets, takes, steps, onward, walk, unmarked, Ends, MarksIn, stepped, marksAfter, Done}
 use Rattle.patterns.specs.declared.Leaf.{Leaf}
 use Rattle.patterns.specs.declared.Leaf.the-variants.{Plain, Blank, Variable}
 use Rattle.patterns.specs.declared.Stepped.{Stepped}
@@ -155,7 +155,7 @@ module _ (w e q : List ℕ) (p : ℕ) where
       walking-stops x z = walk-on (misses x) z
 
       -- the step is the code's answer
-      module _ (r : Stepped) (ms′ : List ℕ) (a : Answers (steps w e (getD q k 0) j ms) ms r ms′) where
+      module _ (r : Stepped) (ms′ : List ℕ) (a : Done (steps w e (getD q k 0) j ms) ms r ms′) where
         pub walking-next : (n : ℕ) → r ≡ To n → Walking w e q p ms′ n (k + 1)
         walking-next n z = go (steps w e (getD q k 0) j ms) refl (sym (a .answer) ∙ z) (a .marks)
           where

@@ -11,3 +11,4 @@ pub mod Going
 pub mod Writing
 pub mod Steps
 pub mod Searching
+pub mod Promises

@@ -10,17 +10,17 @@ use lib.Dec.{eqb}
 use lib.ListN.{getD, length, set}
 use Rattle.rows.specs.Row.{pick}
 use Rattle.patterns.specs.Pattern.{leaf}
-use Rattle.patterns.specs.Walk.{sameSymbol, agreeing, Outcome, Outcome.misses, Outcome.reaches, meets, takes, steps, Ends, MarksIn, stepped, marksAfter, Answers}
+use Rattle.patterns.specs.Walk.{sameSymbol, agreeing, Outcome, Outcome.misses, Outcome.reaches, meets, takes, steps, Ends, MarksIn, stepped, marksAfter, Done}
 use Rattle.patterns.specs.declared.Leaf.the-variants.{Plain, Blank, Variable}
 use Rattle.patterns.specs.declared.Stepped.{Stepped}
 use Rattle.patterns.proofs.Leaves.{Kind, kind}
 
 -- the answer for an outcome that is known
-pub answers : (o o′ : Outcome) (ms : List ℕ) → o ≡ o′ → Answers o ms (stepped o′) (marksAfter ms o′)
+pub answers : (o o′ : Outcome) (ms : List ℕ) → o ≡ o′ → Done o ms (stepped o′) (marksAfter ms o′)
 answers o o′ ms q = record { answer = ap stepped (sym q); marks = ap (marksAfter ms) (sym q) }
 
-pub answers-at : (o o′ : Outcome) (ms : List ℕ) (r : Stepped) (ms′ : List ℕ) → o ≡ o′ → Answers o′ ms r ms′ → Answers o ms r ms′
-answers-at o o′ ms r ms′ q h = subst (λ (x : Outcome). Answers x ms r ms′) (sym q) h
+pub answers-at : (o o′ : Outcome) (ms : List ℕ) (r : Stepped) (ms′ : List ℕ) → o ≡ o′ → Done o′ ms r ms′ → Done o ms r ms′
+answers-at o o′ ms r ms′ q h = subst (λ (x : Outcome). Done x ms r ms′) (sym q) h
 
 -- a variable's number is below 16
 pub variable-small : (s i : ℕ) → leaf s ≡ Variable i → i < 16

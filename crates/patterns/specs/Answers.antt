@@ -34,18 +34,22 @@ faced j none g = []
 faced j (grow s cs f) none = []
 faced j (grow s cs f) (grow r ds g) = j ∷ (faced (j + 1) cs ds ++ faced (j + size ds + 1) f g)
 
+-- where the pattern q is laid over the subtree at position p of the row w
+abbrev pub facing : List ℕ → List ℕ → List ℕ → ℕ → List ℕ
+facing A w q p = faced p (single (treeOf A q)) (single (subtreeAt (parse A w) p))
+
 -- it is variable i
-abbrev pub isLeaf : ℕ → Leaf → Bool
-isLeaf i Plain = false
-isLeaf i Blank = false
-isLeaf i (Variable k) = eqb k i
+abbrev pub variableIs : ℕ → Leaf → Bool
+variableIs i Plain = false
+variableIs i Blank = false
+variableIs i (Variable k) = eqb k i
 
 -- Begin and end of variable i, for a pattern q whose numbers face the positions ps of a row with the table t: those of
 -- the subtree at the variable's first place; 0 and 0 if the pattern lacks it.
 unfoldable pub span : List ℕ → ℕ → List ℕ → List ℕ → List ℕ
 span t i [] ps = 0 ∷ 0 ∷ []
 span t i (s ∷ q) [] = 0 ∷ 0 ∷ []
-span t i (s ∷ q) (p ∷ ps) = pick (isLeaf i (leaf s)) (p ∷ getD t p 0 ∷ []) (span t i q ps)
+span t i (s ∷ q) (p ∷ ps) = pick (variableIs i (leaf s)) (p ∷ getD t p 0 ∷ []) (span t i q ps)
 
 -- those of the variables below n, one after the other
 unfoldable pub spansBelow : List ℕ → ℕ → List ℕ → List ℕ → List ℕ
@@ -54,7 +58,7 @@ spansBelow t (suc i) q ps = spansBelow t i q ps ++ span t i q ps
 
 -- begin, then end, of X0, then of X1 and so on to X15, where the pattern q matches at position p of the row w
 abbrev pub spans : List ℕ → List ℕ → List ℕ → ℕ → List ℕ
-spans A w q p = spansBelow (table A w) 16 q (faced p (single (treeOf A q)) (single (subtreeAt (parse A w) p)))
+spans A w q p = spansBelow (table A w) 16 q (facing A w q p)
 
 -- what refusals 1 to 15 leave: an alphabet of at most 1,024 symbols, an accepted row with its table, an accepted pattern
 pub record Checked (A w t q : List ℕ) : Type 0 where

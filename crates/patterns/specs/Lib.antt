@@ -1,3 +1,4 @@
 pub mod Pattern
 pub mod Answers
 pub mod Walk
+pub mod Promises

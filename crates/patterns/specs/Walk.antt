@@ -100,7 +100,7 @@ abbrev pub marksAfter : List ℕ → Outcome → List ℕ
 marksAfter ms (misses j) = ms
 marksAfter ms (reaches j ms′) = ms′
 
-pub record Answers (o : Outcome) (ms : List ℕ) (r : Stepped) (ms′ : List ℕ) : Type 0 where
+pub record Done (o : Outcome) (ms : List ℕ) (r : Stepped) (ms′ : List ℕ) : Type 0 where
   pub answer : r ≡ stepped o
   pub marks : ms′ ≡ marksAfter ms o
 

@@ -7,7 +7,7 @@ ghost use Rattle.rows.specs.Buffers.{written};
 ghost use Rattle.rows.specs.Refusals.{pattern};
 ghost use Rattle.patterns.specs.Pattern.{leaf};
 ghost use Rattle.patterns.specs.Answers.{Checked, Searchable, Next, Counts, Lists, Room, Binds};
-ghost use Rattle.patterns.specs.Walk.{sameSymbol, sameFront, meets, steps, Ends, MarksIn, Answers, markBegin, markEnd, markSpans};
+ghost use Rattle.patterns.specs.Walk.{sameSymbol, sameFront, meets, steps, Ends, MarksIn, Done, markBegin, markEnd, markSpans};
 use rows::Check;
 use rows::Leaves;
 use rows::Refusal;
@@ -75,7 +75,7 @@ pub enum Stepped {
 // Variable i at row position j. At its first place it is marked; at a later one the subtree of the first stands again.
 fn meet(row: &[u16], table: &[u16], i: usize, j: usize, marks: &mut [u16; 16]) -> Stepped
     requires { ⌜ Ends (now row) (now table) × MarksIn j (now marks) × (i < 16) × (j < length (now row)) ⌝ }
-    ensures { λ r. ⌜ Answers (meets (now (row .entry)) (now (table .entry)) j (now (marks .entry)) i (getD (now (marks .entry)) i 0)) (now (marks .entry)) r (now (marks .exit)) ⌝ }
+    ensures { λ r. ⌜ Done (meets (now (row .entry)) (now (table .entry)) j (now (marks .entry)) i (getD (now (marks .entry)) i 0)) (now (marks .entry)) r (now (marks .exit)) ⌝ }
 {
     let end = table[j] as usize;
     let m = marks[i] as usize;
@@ -94,7 +94,7 @@ fn meet(row: &[u16], table: &[u16], i: usize, j: usize, marks: &mut [u16; 16]) -
 // One symbol of the pattern at row position j.
 fn step(row: &[u16], table: &[u16], s: u16, j: usize, marks: &mut [u16; 16]) -> Stepped
     requires { ⌜ Ends (now row) (now table) × MarksIn j (now marks) × (j < length (now row)) ⌝ }
-    ensures { λ r. ⌜ Answers (steps (now (row .entry)) (now (table .entry)) s j (now (marks .entry))) (now (marks .entry)) r (now (marks .exit)) ⌝ }
+    ensures { λ r. ⌜ Done (steps (now (row .entry)) (now (table .entry)) s j (now (marks .entry))) (now (marks .entry)) r (now (marks .exit)) ⌝ }
 {
     if same(row[j], s) {
         return Stepped::To(j + 1);
