@@ -1,7 +1,7 @@
 -- The promises of specs/Promises, each with its proof.
 -- Assumes nothing.
-use Prim.Native.Nat.{ℕ, _+_, _-_}
-use mathlib.Core.Path.{_≡_, refl, sym, ap, _∙_}
+use Prim.Native.Nat.{ℕ, _+_, _-_, _<_}
+use mathlib.Core.Path.{_≡_, refl, sym, ap, ap₂, _∙_, subst}
 use mathlib.Core.List.{List, []}
 use native.Mathlib.Nat.{zero-add}
 use lib.ListN.{length, take, drop, length-drop}
@@ -20,10 +20,20 @@ use Rattle.rows.proofs.Entry.{length-table}
 use Rattle.rows.proofs.Promises.{table-of-row}
 use Rattle.tables.proofs.Given.{row-fine}
 use Rattle.sparrowhem.specs.Build.{buildCheck}
-use Rattle.sparrowhem.specs.Promises.{Build-settled, Build-refused, Build-accepts, Build-writes, Subtree-part, Subtree-empty}
+use Rattle.sparrowhem.specs.Promises.{Build-settled, Build-refused, Build-accepts, Build-writes, Subtree-part, Subtree-empty, Find-settled, Find-refused, Find-lists, Find-short, Find-computed, Variables-settled, Variables-matched, Variables-unmatched, Variables-refused, Variables-computed}
 use Rattle.sparrowhem.specs.Parts.{subtreePart, subtreeAnswer}
 use Rattle.sparrowhem.specs.declared.parts.Placed.{Placed}
 use Rattle.sparrowhem.specs.declared.parts.Placed.the-variants.{Span, Unplaced}
+use Rattle.rows.specs.declared.Refusal.the-variants.{OutputShort}
+use Rattle.patterns.specs.Answers.{Listed, spans}
+use Rattle.patterns.specs.Walk.{listOf}
+use Rattle.patterns.proofs.Promises.{walk-lists, spans-long}
+use Rattle.sparrowhem.specs.Search.{output, findCheck, found}
+use Rattle.sparrowhem.specs.declared.search.Found.the-variants.{Matches, Refused as FindRefused}
+use Rattle.sparrowhem.specs.declared.search.Bound.the-variants.{Matched, Unmatched, Refused as BindRefused}
+use Rattle.sparrowhem.proofs.Searching.{written-behind, search-checked, finds-list, finds-matches, finds-kept, binds-walk, binds-tells}
+use native.Mathlib.Decide.{decLt}
+use borrow.Author.Tests.{lt-ltb, le-ltb}
 use Rattle.sparrowhem.proofs.Handing.{answer-span, answer-none, span-within, span-part}
 use Rattle.rows.specs.declared.Refusal.{Refusal}
 use native.Mathlib.Omega.{arith}
@@ -79,3 +89,62 @@ subtree-empty A w t p = (λ none. from (subtreeAnswer A w t p) refl none, λ x. 
         let s = subtree-part A w t p b e h in
         let long : length (take (e - b) (drop b w)) ≡ e - b = length-take-le (e - b) (drop b w) (simp length-drop (omega (arith, s .2))) in
         absurd (omega (arith, s .1, long, ap length (sym (s .3) ∙ none)))
+
+pub find-computed : Find-computed
+find-computed A w t q y r y′ f = finds-list A w t q y r y′ f (listOf A w q) (λ e. walk-lists A w t q (search-checked A w t q e))
+
+pub find-settled : Find-settled
+find-settled A w t q y r s y′ z′ f g =
+    let a = find-computed A w t q y r y′ f in
+    let b = find-computed A w t q y s z′ g in
+    (a .0 ∙ sym (b .0), a .1 ∙ sym (b .1))
+
+pub find-refused : Find-refused
+find-refused A w t q y r y′ f = finds-kept A w t q y (FindRefused r) y′ f r refl
+
+pub find-lists : Find-lists
+find-lists A w t q y n y′ f =
+    let a = finds-matches A w t q y (Matches n) y′ f n refl in
+    let ps = f .positions in (
+      subst (Listed A w q (length w)) (sym (ap₂ take (a .many) (a .wrote) ∙ written-front y ps)) (f .listed (a .checked)),
+      a .room,
+      ap₂ drop (a .many) (a .wrote) ∙ written-behind y ps ∙ ap (λ (k : ℕ). drop k y) (sym (a .many)),
+    )
+
+pub find-short : Find-short
+unfolding findCheck output
+find-short A w t q y r y′ f e ps l = (λ z. go (decLt (length y) (length ps)) z, λ h. answer ∙ rw (lt-ltb (length y) (length ps) h) refl)
+  where
+    answer : r ≡ found (output (length ps) (length y)) (length ps)
+    answer = finds-list A w t q y r y′ f ps (λ e. l) .0 ∙ ap (λ (c : Check). found (c then output (length ps) (length y)) (length ps)) e
+
+    go : Dec (length y < length ps) → r ≡ FindRefused (OutputShort (length ps)) → length y < length ps
+    go (yes h) z = h
+    go (no h) z =
+        let fits : r ≡ Matches (length ps) = answer ∙ rw (le-ltb (length y) (length ps) (omega arith)) refl in
+        let x : _≡_ {A = ℕ} 0 1 = cc in
+        absurd (omega arith)
+
+pub variables-computed : Variables-computed
+variables-computed = binds-walk
+
+pub variables-settled : Variables-settled
+variables-settled A w t q p y r s y′ z′ f g =
+    let a = binds-walk A w t q p y r y′ f in
+    let b = binds-walk A w t q p y s z′ g in
+    (a .0 ∙ sym (b .0), a .1 ∙ sym (b .1))
+
+pub variables-matched : Variables-matched
+variables-matched A w t q p y y′ f =
+    let a = binds-tells A w t q p y Matched y′ f in
+    let long = spans-long A w q p in (
+      a .0,
+      ap (take 32) (a .1) ∙ ap (λ (k : ℕ). take k (written y 0 (spans A w q p))) (sym long) ∙ written-front y (spans A w q p),
+      ap (drop 32) (a .1) ∙ ap (λ (k : ℕ). drop k (written y 0 (spans A w q p))) (sym long) ∙ written-behind y (spans A w q p) ∙ ap (λ (k : ℕ). drop k y) long,
+    )
+
+pub variables-unmatched : Variables-unmatched
+variables-unmatched A w t q p y y′ f = binds-tells A w t q p y Unmatched y′ f
+
+pub variables-refused : Variables-refused
+variables-refused A w t q p y r y′ f = binds-tells A w t q p y (BindRefused r) y′ f

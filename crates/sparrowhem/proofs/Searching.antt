@@ -1,14 +1,17 @@
 -- What refusals 1 to 15 leave, and what find and the variables call make of it.
 -- Assumes nothing.
-use Prim.Native.Nat.{ℕ, _≤_, _<_}
-use mathlib.Core.Path.{_≡_, refl, sym, ap, ap₂, _∙_}
+use Prim.Native.Nat.{ℕ, _+_, _≤_, _<_}
+use mathlib.Core.Path.{_≡_, refl, sym, ap, _∙_, subst}
 use mathlib.Core.List.{List, []}
 use mathlib.Core.Bool.{Bool, true, false}
 use mathlib.Core.Logic.{_↔_}
 use native.Mathlib.Omega.{arith}
+use native.Mathlib.Nat.{zero-add}
 use borrow.Author.Tests.{lt-ltb, le-ltb, le-leb, lt-leb, ltb-false}
 use lib.Dec.{ltb}
-use lib.ListN.{length}
+use lib.ListN.{length, drop}
+use lib.Seq.{drop-at}
+use Rattle.rows.specs.Parse.{table}
 use Rattle.rows.specs.Row.{pick, reading}
 use Rattle.rows.specs.Buffers.{written, after}
 use Rattle.rows.specs.Refusals.{_then_, alphabetSize, aritiesFit, someLeaf, alphabet, kept, given, asPattern, pattern, position}
@@ -20,8 +23,20 @@ use Rattle.rows.specs.declared.Refusal.the-variants.{AlphabetSize, Position, Ou
 use Rattle.rows.specs.declared.Check.{Check}
 use Rattle.rows.specs.declared.Check.the-variants.{Fine, Refused}
 use Rattle.tables.proofs.Given.{both-fine, given-right}
-use Rattle.patterns.specs.Answers.{MatchesAt, spans, Checked, Lists, Binds as Bound-at}
+use Rattle.patterns.specs.Answers.{MatchesAt, Listed, spans, Checked, Lists, Binds as Bound-at}
+use Rattle.patterns.specs.Walk.{comesThrough}
+use Rattle.patterns.proofs.Promises.{one-list, walk-right}
 use Rattle.sparrowhem.specs.Search.{searchCheck, output, findCheck, found, Finds, bindCheck, bound, Binds}
+use Rattle.sparrowhem.specs.declared.search.Found.{Found}
+use Rattle.sparrowhem.specs.declared.search.Found.the-variants.{Matches, Refused as FindRefused}
+use Rattle.sparrowhem.specs.declared.search.Bound.{Bound}
+use Rattle.sparrowhem.specs.declared.search.Bound.the-variants.{Matched, Unmatched, Refused as BindRefused}
+use Rattle.sparrowhem.proofs.Handing.{position-fine}
+
+-- what stands behind a list that is written to the front stays
+pub written-behind : (b v : List ℕ) → drop (length v) (written b 0 v) ≡ drop (length v) b
+unfolding written
+written-behind b v = drop-at v (drop (0 + length v) b) (length v) refl ∙ ap (λ (n : ℕ). drop n b) (zero-add (length v))
 
 few : (n : ℕ) → alphabetSize n ≡ Fine → n ≤ 1024
 unfolding alphabetSize
@@ -122,3 +137,98 @@ module _ (A w t q : List ℕ) (p : ℕ) (y : List ℕ) where
           answer = ap (bound Fine) (sym z) ∙ sym (ap (λ (x : Check). bound x r) c);
           buffer = m .buffer ∙ sym (ap (λ (x : Check). after x (pick r (written y 0 (spans A w q p)) y) y) c);
         }
+
+-- WHAT AN ANSWER TELLS
+output-fine : (n m : ℕ) → output n m ≡ Fine → n ≤ m
+unfolding output
+output-fine n m e = go (ltb m n) refl e
+  where
+    go : (b : Bool) → ltb m n ≡ b → pick b (Refused (OutputShort n)) Fine ≡ Fine → n ≤ m
+    go true h e = let z : _≡_ {A = ℕ} 0 1 = cc in absurd (omega arith)
+    go false h e = ltb-false m n h
+
+module _ (A w t q y : List ℕ) (r : Found) (y′ : List ℕ) (f : Finds A w t q y r y′) where
+  abbrev outcome : List ℕ → Check → Type 0
+  outcome ps c = (r ≡ found c (length ps)) × (y′ ≡ after c (written y 0 ps) y)
+
+  -- the list of all matches is the one that counts
+  pub finds-list : (ps : List ℕ) → (searchCheck A w t q ≡ Fine → Listed A w q (length w) ps) → outcome ps (findCheck A w t q (length ps) (length y))
+  unfolding findCheck
+  finds-list ps l = go (searchCheck A w t q) refl (f .answer) (f .buffer)
+    where
+      go : (c : Check) → searchCheck A w t q ≡ c → r ≡ found (c then output (length (f .positions)) (length y)) (length (f .positions))
+          → y′ ≡ after (c then output (length (f .positions)) (length y)) (written y 0 (f .positions)) y → outcome ps (c then output (length ps) (length y))
+      go (Refused x) e a b = (a, b)
+      go Fine e a b =
+          let same : f .positions ≡ ps = one-list A w q (length w) (f .positions) ps (f .listed e) (l e) in
+          (a ∙ ap (λ (l : List ℕ). found (output (length l) (length y)) (length l)) same, b ∙ ap (λ (l : List ℕ). after (output (length l) (length y)) (written y 0 l) y) same)
+
+  -- nothing is refused
+  pub record All (n : ℕ) : Type 0 where
+    pub checked : searchCheck A w t q ≡ Fine
+    pub room : n ≤ length y
+    pub many : n ≡ length (f .positions)
+    pub wrote : y′ ≡ written y 0 (f .positions)
+
+  pub finds-matches : (n : ℕ) → r ≡ Matches n → All n
+  unfolding findCheck
+  finds-matches n z = go (findCheck A w t q (length (f .positions)) (length y)) refl (sym z ∙ f .answer) (f .buffer)
+    where
+      go : (c : Check) → findCheck A w t q (length (f .positions)) (length y) ≡ c → Matches n ≡ found c (length (f .positions))
+          → y′ ≡ after c (written y 0 (f .positions)) y → All n
+      go (Refused x) e a b = let z : _≡_ {A = ℕ} 0 1 = cc in absurd (omega arith)
+      go Fine e a b =
+          let both = both-fine (searchCheck A w t q) (output (length (f .positions)) (length y)) e in
+          let same : n ≡ length (f .positions) = cc in
+          record { checked = both .0; room = omega (arith, output-fine (length (f .positions)) (length y) (both .1)); many = same; wrote = b }
+
+  pub finds-kept : (x : Refusal) → r ≡ FindRefused x → y′ ≡ y
+  finds-kept x z = go (findCheck A w t q (length (f .positions)) (length y)) (sym z ∙ f .answer) (f .buffer)
+    where
+      go : (c : Check) → FindRefused x ≡ found c (length (f .positions)) → y′ ≡ after c (written y 0 (f .positions)) y → y′ ≡ y
+      go (Refused x) a b = b
+      go Fine a b = let z : _≡_ {A = ℕ} 0 1 = cc in absurd (omega arith)
+
+both-ways : (a b : Bool) (X : Type 0) → (a ≡ true) ↔ X → (b ≡ true) ↔ X → a ≡ b
+both-ways true b X f g = sym (g .1 (f .0 refl))
+both-ways false true X f g = f .1 (g .0 refl)
+both-ways false false X f g = refl
+
+module _ (A w t q : List ℕ) (p : ℕ) (y : List ℕ) (r : Bound) (y′ : List ℕ) (f : Binds A w t q p y r y′) where
+  -- what is not refused
+  inside : bindCheck A w t q p (length y) ≡ Fine → Checked A w t q × (p < length w)
+  unfolding bindCheck
+  inside e =
+      let both = both-fine (searchCheck A w t q) (position (length w) p then output 32 (length y)) e in
+      (search-checked A w t q (both .0), position-fine (length w) p (both-fine (position (length w) p) (output 32 (length y)) (both .1) .0))
+
+  -- the walk says whether the pattern matches
+  pub binds-walk : (r ≡ bound (bindCheck A w t q p (length y)) (comesThrough w (table A w) q p))
+      × (y′ ≡ after (bindCheck A w t q p (length y)) (pick (comesThrough w (table A w) q p) (written y 0 (spans A w q p)) y) y)
+  binds-walk = go (bindCheck A w t q p (length y)) refl (f .answer) (f .buffer)
+    where
+      m : Bool
+      m = comesThrough w (table A w) q p
+
+      go : (c : Check) → bindCheck A w t q p (length y) ≡ c → r ≡ bound c (f .matched) → y′ ≡ after c (pick (f .matched) (written y 0 (spans A w q p)) y) y
+          → (r ≡ bound c m) × (y′ ≡ after c (pick m (written y 0 (spans A w q p)) y) y)
+      go (Refused x) e a b = (a, b)
+      go Fine e a b =
+          let i = inside e in
+          let same : f .matched ≡ m = both-ways (f .matched) m (MatchesAt A w q p) (f .exactly e) (walk-right A w t q (i .0) p (i .1)) in
+          (a ∙ ap (bound Fine) same, b ∙ ap (λ (x : Bool). pick x (written y 0 (spans A w q p)) y) same)
+
+  abbrev Tells : Bound → Type 0
+  Tells Matched = MatchesAt A w q p × (y′ ≡ written y 0 (spans A w q p))
+  Tells Unmatched = (MatchesAt A w q p → ⊥) × (y′ ≡ y)
+  Tells (BindRefused x) = y′ ≡ y
+
+  pub binds-tells : Tells r
+  binds-tells =
+      subst Tells (sym (f .answer)) (go (bindCheck A w t q p (length y)) refl (f .matched) (λ e. f .exactly e) (f .buffer))
+    where
+      go : (c : Check) → bindCheck A w t q p (length y) ≡ c → (m : Bool) → (bindCheck A w t q p (length y) ≡ Fine → (m ≡ true) ↔ MatchesAt A w q p)
+          → y′ ≡ after c (pick m (written y 0 (spans A w q p)) y) y → Tells (bound c m)
+      go (Refused x) e m k b = b
+      go Fine e true k b = (k e .0 refl, b)
+      go Fine e false k b = (λ x. (let y = k e .1 x in let z : _≡_ {A = ℕ} 0 1 = cc in omega arith), b)

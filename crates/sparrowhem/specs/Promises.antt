@@ -6,13 +6,23 @@ use mathlib.Core.List.{List, []}
 use mathlib.Core.Logic.{_↔_}
 use lib.ListN.{length, take, drop}
 use Rattle.rows.specs.Tree.{IsRow, single, ends}
-use Rattle.rows.specs.Row.{symbol}
+use Rattle.rows.specs.Parse.{table}
+use Rattle.rows.specs.Row.{pick, symbol}
+use Rattle.rows.specs.Buffers.{written, after}
 use Rattle.rows.specs.Refusals.{alphabet, sizes}
 use Rattle.rows.specs.declared.Refusal.{Refusal}
+use Rattle.rows.specs.declared.Refusal.the-variants.{OutputShort}
 use Rattle.rows.specs.declared.Check.{Check}
 use Rattle.rows.specs.declared.Check.the-variants.{Fine, Refused}
 use Rattle.sparrowhem.specs.Build.{Built}
+use Rattle.patterns.specs.Answers.{MatchesAt, Listed, spans}
+use Rattle.patterns.specs.Walk.{comesThrough, listOf}
 use Rattle.sparrowhem.specs.Parts.{subtreePart, subtreeAnswer}
+use Rattle.sparrowhem.specs.Search.{searchCheck, findCheck, found, Finds, bindCheck, bound, Binds}
+use Rattle.sparrowhem.specs.declared.search.Found.{Found}
+use Rattle.sparrowhem.specs.declared.search.Found.the-variants.{Matches, Refused as FindRefused}
+use Rattle.sparrowhem.specs.declared.search.Bound.{Bound}
+use Rattle.sparrowhem.specs.declared.search.Bound.the-variants.{Matched, Unmatched, Refused as BindRefused}
 use Rattle.sparrowhem.specs.declared.parts.Placed.the-variants.{Span, Unplaced}
 
 -- Build's contract settles its answer and the table: two outcomes are equal.
@@ -42,3 +52,52 @@ Subtree-part = (A w t : List ℕ) (p b e : ℕ) → subtreeAnswer A w t p ≡ Sp
 -- It is empty exactly if the companion refuses.
 abbrev pub Subtree-empty : Type 0
 Subtree-empty = (A w t : List ℕ) (p : ℕ) → (subtreePart A w t p ≡ []) ↔ ((r : Refusal) × (subtreeAnswer A w t p ≡ Unplaced r))
+
+-- Find's contract settles its answer and the output: two outcomes are equal.
+abbrev pub Find-settled : Type 0
+Find-settled = (A w t q y : List ℕ) (r s : Found) (y′ z′ : List ℕ) → Finds A w t q y r y′ → Finds A w t q y s z′ → (r ≡ s) × (y′ ≡ z′)
+
+-- A refused find writes nothing.
+abbrev pub Find-refused : Type 0
+Find-refused = (A w t q y : List ℕ) (r : Refusal) (y′ : List ℕ) → Finds A w t q y (FindRefused r) y′ → y′ ≡ y
+
+-- An answered find has the list of all matches at the front of the output, as many as it says; later places stay.
+abbrev pub Find-lists : Type 0
+Find-lists = (A w t q y : List ℕ) (n : ℕ) (y′ : List ℕ) → Finds A w t q y (Matches n) y′
+    → Listed A w q (length w) (take n y′) × (n ≤ length y) × (drop n y′ ≡ drop n y)
+
+-- Where nothing earlier is refused, it refuses with 19 exactly if there are more matches than places; the place is the
+-- number of all matches.
+abbrev pub Find-short : Type 0
+Find-short = (A w t q y : List ℕ) (r : Found) (y′ : List ℕ) → Finds A w t q y r y′
+    → searchCheck A w t q ≡ Fine → (ps : List ℕ) → Listed A w q (length w) ps → (r ≡ FindRefused (OutputShort (length ps))) ↔ (length y < length ps)
+
+-- Its outcome can be computed.
+abbrev pub Find-computed : Type 0
+Find-computed = (A w t q y : List ℕ) (r : Found) (y′ : List ℕ) → Finds A w t q y r y′
+    → (r ≡ found (findCheck A w t q (length (listOf A w q)) (length y)) (length (listOf A w q)))
+    × (y′ ≡ after (findCheck A w t q (length (listOf A w q)) (length y)) (written y 0 (listOf A w q)) y)
+
+-- The contract of the variables call settles its answer and the output: two outcomes are equal.
+abbrev pub Variables-settled : Type 0
+Variables-settled = (A w t q : List ℕ) (p : ℕ) (y : List ℕ) (r s : Bound) (y′ z′ : List ℕ)
+    → Binds A w t q p y r y′ → Binds A w t q p y s z′ → (r ≡ s) × (y′ ≡ z′)
+
+-- Where the pattern matches, the first 32 places of the output hold the spans, and later places stay.
+abbrev pub Variables-matched : Type 0
+Variables-matched = (A w t q : List ℕ) (p : ℕ) (y y′ : List ℕ) → Binds A w t q p y Matched y′
+    → MatchesAt A w q p × (take 32 y′ ≡ spans A w q p) × (drop 32 y′ ≡ drop 32 y)
+
+-- Where it does not, nothing is written.
+abbrev pub Variables-unmatched : Type 0
+Variables-unmatched = (A w t q : List ℕ) (p : ℕ) (y y′ : List ℕ) → Binds A w t q p y Unmatched y′ → (MatchesAt A w q p → ⊥) × (y′ ≡ y)
+
+-- A refused call writes nothing.
+abbrev pub Variables-refused : Type 0
+Variables-refused = (A w t q : List ℕ) (p : ℕ) (y : List ℕ) (r : Refusal) (y′ : List ℕ) → Binds A w t q p y (BindRefused r) y′ → y′ ≡ y
+
+-- The outcome can be computed.
+abbrev pub Variables-computed : Type 0
+Variables-computed = (A w t q : List ℕ) (p : ℕ) (y : List ℕ) (r : Bound) (y′ : List ℕ) → Binds A w t q p y r y′
+    → (r ≡ bound (bindCheck A w t q p (length y)) (comesThrough w (table A w) q p))
+    × (y′ ≡ after (bindCheck A w t q p (length y)) (pick (comesThrough w (table A w) q p) (written y 0 (spans A w q p)) y) y)
