@@ -11,16 +11,16 @@ use borrow.Author.Tests.{eq-eqb, eqb-true, eqb-false}
 use lib.Dec.{eqb, ltb→lt}
 use lib.ListN.{getD, length, set, length-append, List·getD-append, List·getD-eq-default}
 use lib.Seq.{getD-set-same, getD-set-other, getD-append-add}
-use Rattle.rows.specs.Tree.{Forest, Forest.none, Forest.grow, Tree, single, size, count, prefix, Ranked, subtreeAt}
+use Rattle.rows.specs.Tree.{Forest, Forest.none, Forest.grow, Tree, single, size, prefix, Ranked, subtreeAt}
 use Rattle.rows.specs.Parse.{parse, treeOf, table}
-use Rattle.rows.specs.Row.{pick, symbol, allowed}
+use Rattle.rows.specs.Row.{pick, allowed}
 use Rattle.rows.specs.Buffers.{written}
 use Rattle.rows.specs.declared.Leaves.the-variants.{Blanks, Symbols}
 use Rattle.rows.proofs.Accept.{enough}
 use Rattle.tables.proofs.Given.{right-entry}
 use Rattle.patterns.specs.Pattern.{leaf}
-use Rattle.patterns.specs.Answers.{faced, facing, variableIs, span, spansBelow, spans, Checked, Binds}
-use Rattle.patterns.specs.Walk.{sameSymbol, agreeing, Outcome, Outcome.misses, Outcome.reaches, meets, takes, steps, onward, walk, unmarked, markBegin, markEnd, markSpans, MarksIn}
+use Rattle.patterns.specs.Answers.{faced, facing, isLeaf, span, spansBelow, Checked, Binds}
+use Rattle.patterns.specs.Walk.{sameSymbol, agreeing, Outcome, Outcome.misses, Outcome.reaches, meets, takes, steps, onward, walk, unmarked, markBegin, markEnd, markSpans}
 use Rattle.patterns.specs.declared.Leaf.{Leaf}
 use Rattle.patterns.specs.declared.Leaf.the-variants.{Plain, Blank, Variable}
 use Rattle.patterns.proofs.Leaves.{Kind, kind, plain-symbol, leaf-alone}
@@ -48,13 +48,13 @@ length-trace e (s ∷ q) j = ap suc (length-trace e q (past e j (leaf s)))
 unfoldable pub seat : ℕ → List ℕ → List ℕ → ℕ
 seat i [] ps = 0
 seat i (s ∷ q) [] = 0
-seat i (s ∷ q) (p ∷ ps) = pick (variableIs i (leaf s)) (suc p) (seat i q ps)
+seat i (s ∷ q) (p ∷ ps) = pick (isLeaf i (leaf s)) (suc p) (seat i q ps)
 
 pub span-seat : (t : List ℕ) (i : ℕ) (q ps : List ℕ) → span t i q ps ≡ markBegin (seat i q ps) ∷ markEnd t (seat i q ps) ∷ []
 unfolding span seat
 span-seat t i [] ps = refl
 span-seat t i (s ∷ q) [] = refl
-span-seat t i (s ∷ q) (p ∷ ps) = go (variableIs i (leaf s)) (span-seat t i q ps)
+span-seat t i (s ∷ q) (p ∷ ps) = go (isLeaf i (leaf s)) (span-seat t i q ps)
   where
     go : (b : Bool) → span t i q ps ≡ markBegin (seat i q ps) ∷ markEnd t (seat i q ps) ∷ []
         → pick b (p ∷ getD t p 0 ∷ []) (span t i q ps) ≡ markBegin (pick b (suc p) (seat i q ps)) ∷ markEnd t (pick b (suc p) (seat i q ps)) ∷ []
@@ -67,13 +67,13 @@ unfolding seat
 seat-some i [] ps k h n z = absurd (omega arith)
 seat-some i (s ∷ q) [] k h n z = absurd (omega arith)
 seat-some i (s ∷ q) (p ∷ ps) zero h n z = (p, rw (z, eq-eqb i i refl) refl)
-seat-some i (s ∷ q) (p ∷ ps) (suc k) h n z = go (variableIs i (leaf s)) (seat-some i q ps k (omega arith) (omega arith) z)
+seat-some i (s ∷ q) (p ∷ ps) (suc k) h n z = go (isLeaf i (leaf s)) (seat-some i q ps k (omega arith) (omega arith) z)
   where
     go : (b : Bool) → (a : ℕ) × (seat i q ps ≡ suc a) → (a : ℕ) × (pick b (suc p) (seat i q ps) ≡ suc a)
     go true r = (p, refl)
     go false r = r
 
-is-variable : (i : ℕ) (l : Leaf) → variableIs i l ≡ true → l ≡ Variable i
+is-variable : (i : ℕ) (l : Leaf) → isLeaf i l ≡ true → l ≡ Variable i
 is-variable i Plain z = let x : _≡_ {A = ℕ} 0 1 = cc in absurd (omega arith)
 is-variable i Blank z = let x : _≡_ {A = ℕ} 0 1 = cc in absurd (omega arith)
 is-variable i (Variable k) z = ap Variable (eqb-true k i z)
@@ -85,9 +85,9 @@ seat-first i [] ps k h n z f = absurd (omega arith)
 seat-first i (s ∷ q) [] k h n z f = absurd (omega arith)
 seat-first i (s ∷ q) (p ∷ ps) zero h n z f = rw (z, eq-eqb i i refl) refl
 seat-first i (s ∷ q) (p ∷ ps) (suc k) h n z f =
-    go (variableIs i (leaf s)) refl (seat-first i q ps k (omega arith) (omega arith) z (λ m l. f (suc m) (omega arith)))
+    go (isLeaf i (leaf s)) refl (seat-first i q ps k (omega arith) (omega arith) z (λ m l. f (suc m) (omega arith)))
   where
-    go : (b : Bool) → variableIs i (leaf s) ≡ b → seat i q ps ≡ suc (getD ps k 0) → pick b (suc p) (seat i q ps) ≡ suc (getD ps k 0)
+    go : (b : Bool) → isLeaf i (leaf s) ≡ b → seat i q ps ≡ suc (getD ps k 0) → pick b (suc p) (seat i q ps) ≡ suc (getD ps k 0)
     go true y r = absurd (f 0 (omega arith) (is-variable i (leaf s) y))
     go false y r = r
 
@@ -96,9 +96,9 @@ pub seat-none : (i : ℕ) (q ps : List ℕ) → ((k : ℕ) → k < length q → 
 unfolding seat
 seat-none i [] ps f = refl
 seat-none i (s ∷ q) [] f = refl
-seat-none i (s ∷ q) (p ∷ ps) f = go (variableIs i (leaf s)) refl (seat-none i q ps (λ k h. f (suc k) (omega arith)))
+seat-none i (s ∷ q) (p ∷ ps) f = go (isLeaf i (leaf s)) refl (seat-none i q ps (λ k h. f (suc k) (omega arith)))
   where
-    go : (b : Bool) → variableIs i (leaf s) ≡ b → seat i q ps ≡ 0 → pick b (suc p) (seat i q ps) ≡ 0
+    go : (b : Bool) → isLeaf i (leaf s) ≡ b → seat i q ps ≡ 0 → pick b (suc p) (seat i q ps) ≡ 0
     go true z h = absurd (f 0 (omega arith) (is-variable i (leaf s) z))
     go false z h = h
 
@@ -130,8 +130,8 @@ module _ (w e : List ℕ) (small : (j : ℕ) → getD w j 0 < 65280) (i : ℕ) (
   -- what a number of the pattern, of kind l, does to it at row position j
   record Touched (l : Leaf) (j : ℕ) (ms : List ℕ) (j′ : ℕ) (ms′ : List ℕ) : Type 0 where
     goes : j′ ≡ past e j l
-    first : variableIs i l ≡ true → getD ms i 0 ≡ 0 → getD ms′ i 0 ≡ suc j
-    other : variableIs i l ≡ false → getD ms′ i 0 ≡ getD ms i 0
+    first : isLeaf i l ≡ true → getD ms i 0 ≡ 0 → getD ms′ i 0 ≡ suc j
+    other : isLeaf i l ≡ false → getD ms′ i 0 ≡ getD ms i 0
 
   abbrev Touches : Leaf → ℕ → List ℕ → Outcome → Type 0
   Touches l j ms (misses x) = Unit {0}
@@ -174,7 +174,7 @@ module _ (w e : List ℕ) (small : (j : ℕ) → getD w j 0 < 65280) (i : ℕ) (
   abbrev Seats : List ℕ → Type 0
   Seats q = (j : ℕ) (ms : List ℕ) (j′ : ℕ) (ms′ : List ℕ) → length ms ≡ 16 → walk w e q j ms ≡ reaches j′ ms′ → getD ms i 0 ≡ 0 → getD ms′ i 0 ≡ seat i q (trace e q j)
 
-  seats-on : (s : ℕ) (q : List ℕ) (j : ℕ) (ms : List ℕ) (j₁ : ℕ) (ms₁ : List ℕ) (j′ : ℕ) (ms′ : List ℕ) (b : Bool) → variableIs i (leaf s) ≡ b
+  seats-on : (s : ℕ) (q : List ℕ) (j : ℕ) (ms : List ℕ) (j₁ : ℕ) (ms₁ : List ℕ) (j′ : ℕ) (ms′ : List ℕ) (b : Bool) → isLeaf i (leaf s) ≡ b
       → Touched (leaf s) j ms j₁ ms₁ → length ms₁ ≡ 16 → walk w e q j₁ ms₁ ≡ reaches j′ ms′ → getD ms i 0 ≡ 0 → Seats q
       → getD ms′ i 0 ≡ pick b (suc j) (seat i q (trace e q (past e j (leaf s))))
   seats-on s q j ms j₁ ms₁ j′ ms′ true z t n y o ih = kept w e q j₁ ms₁ j′ ms′ y .marks i j (t .first z o)
@@ -186,9 +186,9 @@ module _ (w e : List ℕ) (small : (j : ℕ) → getD w j 0 < 65280) (i : ℕ) (
   seats (s ∷ q) j ms j′ ms′ n z o = go (steps w e s j ms) (touches-steps s j ms n) (keeps-steps w e s j ms) z (seats q)
     where
       go : (x : Outcome) → Touches (leaf s) j ms x → Keeps ms x → onward x (λ j₁ ms₁. walk w e q j₁ ms₁) ≡ reaches j′ ms′ → Seats q
-          → getD ms′ i 0 ≡ pick (variableIs i (leaf s)) (suc j) (seat i q (trace e q (past e j (leaf s))))
+          → getD ms′ i 0 ≡ pick (isLeaf i (leaf s)) (suc j) (seat i q (trace e q (past e j (leaf s))))
       go (misses x) t k y ih = let x : _≡_ {A = ℕ} 0 1 = cc in absurd (omega arith)
-      go (reaches j₁ ms₁) t k y ih = seats-on s q j ms j₁ ms₁ j′ ms′ (variableIs i (leaf s)) refl t (k .many ∙ n) y o ih
+      go (reaches j₁ ms₁) t k y ih = seats-on s q j ms j₁ ms₁ j′ ms′ (isLeaf i (leaf s)) refl t (k .many ∙ n) y o ih
 
 -- the walk meets the numbers of the pattern where they face the row
 module _ (A w e : List ℕ) (few : length A ≤ 1024) (v : ℕ → Tree) where

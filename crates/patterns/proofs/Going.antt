@@ -2,11 +2,11 @@
 -- Assumes nothing.
 use Prim.Native.Nat.{ℕ, zero, suc, _+_, _-_, _≤_, _<_}
 use mathlib.Core.Path.{_≡_, refl, sym, ap, ap₂, _∙_, subst}
-use mathlib.Core.List.{List, [], _∷_, _++_}
+use mathlib.Core.List.{List, _++_}
 use mathlib.Core.Bool.{Bool, true, false}
 use native.Mathlib.Omega.{arith}
 use native.Mathlib.Decide.{decLt}
-use borrow.Author.Tests.{eq-eqb, eqb-true}
+use borrow.Author.Tests.{eqb-true}
 use lib.Dec.{eqb}
 use lib.ListN.{getD, length, drop, set, drop-of-length-le, List·getD-eq-default}
 use lib.Seq.{drop-drop, drop-at}
@@ -22,15 +22,15 @@ use Rattle.rows.proofs.Behind.{behind, count-behind, enough-behind}
 use Rattle.rows.proofs.Entry.{entry-first, behind-some}
 use Rattle.tables.proofs.Given.{right-entry}
 use Rattle.patterns.specs.Pattern.{leaf}
-use Rattle.patterns.specs.Answers.{MatchesAt, Checked, Searchable}
-use Rattle.patterns.specs.Walk.{sameSymbol, agreeing, Outcome, Outcome.misses, Outcome.reaches, meets, takes, steps, onward, walk, unmarked, Ends, MarksIn, stepped, marksAfter, Done}
+use Rattle.patterns.specs.Answers.{Checked, Searchable}
+use Rattle.patterns.specs.Walk.{sameSymbol, agreeing, Outcome, Outcome.misses, Outcome.reaches, meets, takes, steps, onward, walk, unmarked, MarksIn, stepped, marksAfter, Done}
 use Rattle.patterns.specs.declared.Leaf.{Leaf}
 use Rattle.patterns.specs.declared.Leaf.the-variants.{Plain, Blank, Variable}
 use Rattle.patterns.specs.declared.Stepped.{Stepped}
 use Rattle.patterns.specs.declared.Stepped.the-variants.{To, Miss}
 use Rattle.patterns.proofs.Leaves.{Kind, kind}
 use Rattle.patterns.proofs.Marks.{picks, marks-none, marks-wider, marks-set}
-use Rattle.patterns.proofs.Matching.{checked-ends, checked-pattern, walk-matches, missed}
+use Rattle.patterns.proofs.Matching.{checked-ends, checked-pattern}
 
 -- behind the end of a subtree one tree fewer stands ahead
 fewer : (A w e q : List ℕ) → Checked A w e q → (j : ℕ) → j < length w → count (behind A w (getD e j 0)) + 1 ≡ count (behind A w j)

@@ -7,8 +7,8 @@ use mathlib.Core.Bool.{Bool, true, false}
 use native.Mathlib.Omega.{arith}
 use borrow.Author.Tests.{lt-ltb, eq-eqb, ne-eqb, eqb-true, ltb-true, ltb-false}
 use lib.Dec.{ltb, eqb}
-use lib.ListN.{length, getD, List·getD-eq-default}
-use Rattle.rows.specs.Tree.{Forest, Forest.none, Forest.grow, count, Ranked}
+use lib.ListN.{length, List·getD-eq-default}
+use Rattle.rows.specs.Tree.{Forest, Forest.none, Forest.grow, Ranked}
 use Rattle.rows.specs.Row.{pick, isVariable}
 use Rattle.rows.proofs.Tree.{no-trees}
 use Rattle.patterns.specs.Pattern.{leaf}

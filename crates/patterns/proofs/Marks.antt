@@ -8,11 +8,11 @@ use mathlib.Core.Bool.{Bool, true, false}
 use native.Mathlib.Omega.{arith}
 use native.Mathlib.Decide.{decLt, ℕ-discrete}
 use lib.Dec.{eqb}
-use lib.ListN.{getD, length, take, drop, set, length-set, List·getD-eq-default, getD-replicate}
+use lib.ListN.{getD, length, set, length-set, List·getD-eq-default, getD-replicate}
 use lib.Seq.{getD-set-same, getD-set-other, set-out}
 use Rattle.rows.specs.Row.{pick}
 use Rattle.patterns.specs.Pattern.{leaf}
-use Rattle.patterns.specs.Walk.{sameSymbol, sameFront, Outcome, Outcome.misses, Outcome.reaches, agreeing, meets, takes, steps, onward, walk, unmarked, MarksIn}
+use Rattle.patterns.specs.Walk.{sameSymbol, Outcome, Outcome.misses, Outcome.reaches, agreeing, meets, takes, steps, onward, walk, unmarked, MarksIn}
 use Rattle.patterns.specs.declared.Leaf.{Leaf}
 use Rattle.patterns.specs.declared.Leaf.the-variants.{Plain, Blank, Variable}
 

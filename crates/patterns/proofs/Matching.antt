@@ -1,9 +1,9 @@
 -- The walk finds exactly the matches, and its marks are those of the only trees that the variables can stand for.
 -- Assumes nothing.
-use Prim.Native.Nat.{ℕ, zero, suc, _+_, _-_, _≤_, _<_}
+use Prim.Native.Nat.{ℕ, suc, _+_, _-_, _≤_, _<_}
 use mathlib.Core.Path.{_≡_, refl, sym, ap, _∙_, subst}
 use mathlib.Core.Logic.{_↔_}
-use mathlib.Core.List.{List, [], _++_, append-nil}
+use mathlib.Core.List.{List, [], append-nil}
 use mathlib.Core.Bool.{true}
 use native.Mathlib.Omega.{arith}
 use lib.ListN.{getD, length}
@@ -17,10 +17,9 @@ use Rattle.rows.proofs.Parse.{prefix-parse}
 use Rattle.rows.proofs.Accept.{count-parse, ranked-parse, lone}
 use Rattle.rows.proofs.Scan.{sized-fits}
 use Rattle.tables.proofs.Given.{right-bounds}
-use Rattle.patterns.specs.Pattern.{Matches}
 use Rattle.patterns.specs.Answers.{MatchesAt, Checked}
 use Rattle.patterns.specs.Walk.{Outcome, Outcome.misses, Outcome.reaches, walk, unmarked, through, comesThrough, Ends, MarksIn}
-use Rattle.patterns.proofs.Standing.{Planted, planted-at, planted-once, stands-inside, stands-end}
+use Rattle.patterns.proofs.Standing.{Planted, planted-at, planted-once, stands-end}
 use Rattle.patterns.proofs.Fits.{Fits, fits-matches, matches-fits}
 use Rattle.patterns.proofs.Marks.{unmarked-zero, marks-none}
 use Rattle.patterns.proofs.Walks.{Agrees, complete, sound}

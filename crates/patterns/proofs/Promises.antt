@@ -1,14 +1,13 @@
 -- The promises of specs/Promises, each with its proof.
 -- Assumes nothing.
 use Prim.Native.Nat.{ℕ, suc, _+_, _≤_, _<_}
-use mathlib.Core.Path.{_≡_, refl, sym, ap, _∙_, subst₂}
+use mathlib.Core.Path.{_≡_, sym, ap, _∙_, subst₂}
 use mathlib.Core.List.{List}
 use native.Mathlib.Omega.{arith}
 use native.Mathlib.Nat.{add-zero}
-use lib.ListN.{length, getD, take, drop}
+use lib.ListN.{length, getD}
 use lib.Seq.{take-all}
-use Rattle.rows.specs.Tree.{Forest, single, prefix, subtreeAt}
-use Rattle.rows.specs.Parse.{parse, table}
+use Rattle.rows.specs.Parse.{table}
 use Rattle.rows.proofs.Entry.{length-table, entry-bounds}
 use Rattle.rows.proofs.Subtrees.{subtree-row}
 use Rattle.patterns.specs.Pattern.{leaf}

@@ -9,9 +9,9 @@ use native.Mathlib.Decide.{ℕ-discrete}
 use lib.ListN.{getD, length}
 use Rattle.rows.specs.Tree.{Forest, Forest.none, Tree, single, prefix, subtreeAt}
 use Rattle.rows.specs.Parse.{parse, treeOf}
-use Rattle.patterns.specs.Pattern.{leaf, Choice, plug, filled, Matches}
+use Rattle.patterns.specs.Pattern.{leaf, plug, filled}
 use Rattle.patterns.specs.Answers.{MatchesAt, Checked, Searchable, Next}
-use Rattle.patterns.specs.Walk.{sameSymbol, Outcome.misses, Outcome.reaches, onward, walk, unmarked}
+use Rattle.patterns.specs.Walk.{sameSymbol, Outcome.misses, Outcome.reaches, walk, unmarked}
 use Rattle.patterns.specs.declared.Leaf.{Leaf}
 use Rattle.patterns.specs.declared.Leaf.the-variants.{Plain, Blank, Variable}
 use Rattle.patterns.proofs.Matching.{PatternOf, checked-pattern, walk-matches, missed}

@@ -1,13 +1,12 @@
 -- Forests that stand at a position of a row with its table.
 -- Assumes nothing.
-use Prim.Native.Nat.{ℕ, zero, suc, _+_, _-_, _≤_, _<_}
-use mathlib.Core.Path.{_≡_, refl, sym, ap, _∙_, subst, subst₂}
+use Prim.Native.Nat.{ℕ, zero, suc, _+_, _-_, _<_}
+use mathlib.Core.Path.{_≡_, sym, ap, _∙_, subst, subst₂}
 use mathlib.Core.List.{List, [], _∷_, _++_, append-assoc, append-nil}
-use mathlib.Core.Bool.{Bool}
 use native.Mathlib.Omega.{arith}
 use native.Mathlib.Nat.{add-zero, zero-add}
 use native.Mathlib.Decide.{decLt}
-use lib.ListN.{getD, length, take, drop, length-append, length-drop, take-append-drop, List·getD-append}
+use lib.ListN.{getD, length, take, drop, length-drop, take-append-drop, List·getD-append}
 use lib.Seq.{drop-drop, drop-append-seam, getD-drop, getD-append-add, take-at}
 use Rattle.rows.specs.Tree.{Forest, Forest.none, Forest.grow, Tree, single, size, prefix, ends, Ranked, subtrees, subtreeAt}
 use Rattle.rows.specs.Parse.{parse, table}

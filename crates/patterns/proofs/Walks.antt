@@ -4,7 +4,7 @@
 use Prim.Native.Nat.{ℕ, zero, suc, _+_, _-_, _≤_, _<_}
 use mathlib.Core.Path.{_≡_, refl, sym, ap, _∙_, subst, subst₂}
 use mathlib.Core.Logic.{⊎-elim}
-use mathlib.Core.List.{List, [], _∷_, _++_, append-assoc}
+use mathlib.Core.List.{List, _++_, append-assoc}
 use mathlib.Core.Bool.{Bool, true, false}
 use native.Mathlib.Omega.{arith}
 use native.Mathlib.Numerals.{add-one}
@@ -17,7 +17,7 @@ use Rattle.rows.specs.Row.{pick, symbol, allowed}
 use Rattle.rows.specs.declared.Leaves.the-variants.{Blanks}
 use Rattle.rows.proofs.Tree.{length-prefix}
 use Rattle.patterns.specs.Pattern.{leaf}
-use Rattle.patterns.specs.Walk.{sameFront, agreeing, Outcome, Outcome.misses, Outcome.reaches, meets, takes, steps, onward, walk, MarksIn}
+use Rattle.patterns.specs.Walk.{agreeing, Outcome, Outcome.misses, Outcome.reaches, meets, takes, steps, onward, walk, MarksIn}
 use Rattle.patterns.specs.declared.Leaf.{Leaf}
 use Rattle.patterns.specs.declared.Leaf.the-variants.{Plain, Blank, Variable}
 use Rattle.patterns.proofs.Leaves.{Kind, kind, plain-symbol, leaf-alone}

@@ -1,14 +1,12 @@
 -- Writing a list to the front of a buffer, one number after the other; and the spans of marks, two numbers a turn.
 -- Assumes nothing.
-use Prim.Native.Nat.{ℕ, zero, suc, _+_, _-_, _≤_, _<_}
+use Prim.Native.Nat.{ℕ, zero, suc, _+_, _-_, _<_}
 use mathlib.Core.Path.{_≡_, refl, sym, ap, ap₂, _∙_}
 use mathlib.Core.List.{List, [], _∷_, _++_, append-assoc}
 use native.Mathlib.Omega.{arith}
-use native.Mathlib.Nat.{zero-add}
 use native.Mathlib.Numerals.{add-one}
-use native.Mathlib.Decide.{decLt}
-use lib.ListN.{length, getD, drop, set, length-append, length-drop, List·getD-append}
-use lib.Seq.{drop-cons, set-at, getD-append-add}
+use lib.ListN.{length, getD, drop, set, length-append}
+use lib.Seq.{drop-cons, set-at}
 use Rattle.rows.specs.Buffers.{written}
 use Rattle.patterns.specs.Walk.{markBegin, markEnd, markSpans}
 

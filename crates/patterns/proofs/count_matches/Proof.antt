@@ -5,7 +5,7 @@ use mathlib.Core.List.{List}
 use native.Mathlib.Omega.{arith}
 use lib.ListN.{length}
 use Rattle.patterns.specs.Answers.{Checked}
-use Rattle.patterns.proofs.Listing.{Tally, tally-start, tally-more, tally-end, tally-small}
+use Rattle.patterns.proofs.Listing.{Tally, tally-start, tally-more, tally-end}
 use borrow.Author.Needs.{needs}
 use Rattle.patterns.proofs.count_matches.Statement.{statement}
 use Rattle.patterns.proofs.count_matches.Tie as tie

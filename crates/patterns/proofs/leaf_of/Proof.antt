@@ -1,7 +1,6 @@
 -- `patterns::leaf_of` meets its contract, test by test.
 -- Assumes nothing.
 use mathlib.Core.Path.{sym, _∙_}
-use native.Mathlib.Omega.{arith}
 use borrow.Author.Needs.{needs}
 use Rattle.patterns.proofs.Leaves.{variable-from, leaf-blank, leaf-variable, leaf-plain}
 use Rattle.patterns.proofs.leaf_of.Statement.{statement}

@@ -1,7 +1,6 @@
 -- `patterns::meet` meets its contract: a first place is marked, a later one is compared with the first.
 -- Assumes nothing.
 use Prim.Native.Nat.{_+_, _-_}
-use mathlib.Core.Path.{sym, _∙_}
 use native.Mathlib.Omega.{arith}
 use lib.ListN.{getD, take, drop, set}
 use Rattle.patterns.specs.Walk.{Outcome.misses, Outcome.reaches}

@@ -12,7 +12,7 @@ use Rattle.patterns.proofs.Leaf.{the-type}
 use Rattle.patterns.specs.declared.Leaf.the-variants.{Plain}
 use mathlib.Core.Path.{_≡_, refl, sym, ap, _∙_, subst}
 use native.Mathlib.Omega.{arith}
-use lib.ListN.{length, getD}
+use lib.ListN.{length}
 use Rattle.patterns.proofs.Matching.{checked-ends, checked-pattern}
 use Rattle.patterns.proofs.Going.{Walking, walking-inside, walking-next, walking-miss, walking-end}
 use Rattle.patterns.proofs.Searching.{next-bare, Passed, passed-none, passed-more, next-here, next-none, root-same, root-other}
@@ -83,7 +83,7 @@ shared-slice-read-step c = search needs
 
 step-requires : tie.Need-step-requires Inv-loop μ-loop Inv-positions μ-positions
 step-requires c κs =
-    let s = c .before .before .before .before .before .before .before .before .before .before .before .before .before .before .before .before in let g = s .args in let i = c .before .before .before .loop in
+    let l = c .before .before .before in let s = l .before .before .before .before .before .before .before .before .before .before .before .before .before in let g = s .args in let i = l .loop in
     (checked-ends (s .pre .0 .0) (g .row .now) (g .table .now) (g .pattern .now) (s .pre .0 .1), i .inv .2 .marks, walking-inside (g .row .now) (g .table .now) (g .pattern .now) _ (s .pre .0) (i .marks) (i .j) (i .k) (i .inv .2) (search needs))
 
 enum-known-found : tie.Need-enum-known-found Inv-loop μ-loop Inv-positions μ-positions
@@ -100,7 +100,7 @@ positions-less c = search needs
 
 positions-again : tie.Need-positions-again Inv-loop μ-loop Inv-positions μ-positions
 positions-again c =
-    let s = c .before .before .before .before .before .before .before .before .before .before .before .before .before .before .before .before .before .before .before in let g = s .args in let o = c .before .before .before .before .before .before .before .before .before .before .before .positions in let i = c .before .before .before .before .before .before .loop in
+    let l = c .before .before .before .before .before .before in let u = l .before .before .before .before .before in let s = u .before .before .before .before .before .before .before .before in let g = s .args in let o = u .positions in let i = l .loop in
     let w = g .row .now in let e = g .table .now in let q = g .pattern .now in
     let missed = walking-miss w e q (o .p) (s .pre .0) (i .marks) (i .j) (i .k) (i .inv .2) (search needs) _ _ (c .before .before .step .ensures) _ (c .enum-told2 .given .1) in
     (refl, subst (λ n. Passed w e q (g .from) (n + 1)) (sym (i .inv .0)) (passed-more w e q (g .from) (o .p) (o .inv .1) (search needs) _ missed))
@@ -113,7 +113,7 @@ loop-less c = search needs
 
 loop-again : tie.Need-loop-again Inv-loop μ-loop Inv-positions μ-positions
 loop-again c =
-    let s = c .before .before .before .before .before .before .before .before .before .before .before .before .before .before .before .before .before .before .before .before in let g = s .args in let i = c .before .before .before .before .before .before .before .loop in (
+    let l = c .before .before .before .before .before .before .before in let s = l .before .before .before .before .before .before .before .before .before .before .before .before .before in let g = s .args in let i = l .loop in (
       i .inv .0,
       refl,
       walking-next (g .row .now) (g .table .now) (g .pattern .now) _ (s .pre .0) (i .marks) (i .j) (i .k) (i .inv .2) (search needs) _ _ (c .before .before .before .step .ensures) _ (c .before .found .given .1),
@@ -121,7 +121,7 @@ loop-again c =
 
 returns-2 : tie.Need-returns-2 Inv-loop μ-loop Inv-positions μ-positions
 returns-2 c =
-    let s = c .before .before .before .before .before .before .before .before .before .before .before .before .before .before in let g = s .args in let o = c .before .before .before .before .before .before .positions in let i = c .before .loop in
+    let l = c .before in let u = l .before .before .before .before .before in let s = u .before .before .before .before .before .before .before .before in let g = s .args in let o = u .positions in let i = l .loop in
     let w = g .row .now in let e = g .table .now in let q = g .pattern .now in
     let through = walking-end w e q (o .p) (s .pre .0) (i .marks) (i .j) (i .k) (i .inv .2) (search needs) in
     rw (i .inv .0) (next-here w e q (g .from) (o .p) (o .inv .1) (search needs) (i .j) (i .marks) through)
@@ -134,14 +134,14 @@ positions-less-2 c = search needs
 
 positions-again-2 : tie.Need-positions-again-2 Inv-loop μ-loop Inv-positions μ-positions
 positions-again-2 c =
-    let s = c .before .before .before .before .before .before .before .before .before .before .before .before in let g = s .args in let o = c .before .before .before .before .positions in
+    let u = c .before .before .before .before in let s = u .before .before .before .before .before .before .before .before in let g = s .args in let o = u .positions in
     let w = g .row .now in let e = g .table .now in let q = g .pattern .now in
-    let plain = sym (c .before .before .before .before .before .before .before .leaf-of .ensures) ∙ c .before .before .before .before .before .enum-told .given .1 in
+    let plain = sym (u .before .before .before .leaf-of .ensures) ∙ u .before .enum-told .given .1 in
     (refl, passed-more w e q (g .from) (o .p) (o .inv .1) (search needs) _ (root-other w e q (s .pre .0) (o .p) (search needs) (sym (c .before .same .ensures) ∙ c .if1 .left) plain))
 
 returns-3 : tie.Need-returns-3 Inv-loop μ-loop Inv-positions μ-positions
 returns-3 c =
-    let g = c .before .before .before .before .before .before .before .before .before .args in let o = c .before .positions in
+    let u = c .before in let g = u .before .before .before .before .before .before .before .before .args in let o = u .positions in
     next-none (g .row .now) (g .table .now) (g .pattern .now) (g .from) (o .p) (o .inv .1) (search needs)
 
 pub next-match-spec : {M : Type 1} → statement M

@@ -51,29 +51,26 @@ enum-known-kind c = search needs
 
 meet-requires : tie.Need-meet-requires
 meet-requires c κs =
-    let s = c .before .before .before .before .before .before .before .before .before .before in
-    let l = c .before .before .before .before in
+    let l = c .before .before .before .before in let s = l .before .before .before .before .before .before in
     (s .pre .0, s .pre .1, variable-small (s .args .s) _ (sym (l .leaf-of .ensures) ∙ c .before .before .kind .given .1), s .pre .2)
 
 returns-2 : tie.Need-returns-2
 returns-2 c =
-    let g = c .before .before .before .before .before .before .before .before .args in
+    let l = c .before .before in let g = l .before .before .before .before .before .before .args in
     answers _ (misses (g .j)) (g .marks .now)
-    (steps-plain (g .row .now) (g .table .now) (g .s) (g .j) (g .marks .now) (sym (c .before .before .before .before .same .ensures) ∙ c .before .before .before .if1 .left)
-    (sym (c .before .before .leaf-of .ensures) ∙ c .enum-told .given .1))
+    (steps-plain (g .row .now) (g .table .now) (g .s) (g .j) (g .marks .now) (sym (l .before .before .same .ensures) ∙ l .before .if1 .left)
+    (sym (l .leaf-of .ensures) ∙ c .enum-told .given .1))
 
 returns-3 : tie.Need-returns-3
 returns-3 c =
-    let g = c .before .before .before .before .before .before .before .before .before .args in
-    let l = c .before .before .before in
+    let l = c .before .before .before in let g = l .before .before .before .before .before .before .args in
     answers _ (reaches (getD (g .table .now) (g .j) 0) (g .marks .now)) (g .marks .now)
     (steps-blank (g .row .now) (g .table .now) (g .s) (g .j) (g .marks .now) (sym (l .before .before .same .ensures) ∙ l .before .if1 .left)
     (sym (l .leaf-of .ensures) ∙ c .before .enum-told2 .given .1))
 
 returns-4 : tie.Need-returns-4
 returns-4 c =
-    let g = c .before .before .before .before .before .before .before .before .before .before .before .args in
-    let l = c .before .before .before .before .before in
+    let l = c .before .before .before .before .before in let g = l .before .before .before .before .before .before .args in
     answers-at _ _ (g .marks .now) (c .meet .result) _
     (steps-variable (g .row .now) (g .table .now) (g .s) (g .j) (g .marks .now) (sym (l .before .before .same .ensures) ∙ l .before .if1 .left) _
     (sym (l .leaf-of .ensures) ∙ c .before .before .before .kind .given .1))

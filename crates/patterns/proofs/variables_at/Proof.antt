@@ -2,7 +2,7 @@
 -- marks of a walk that comes through are those of the variables' first places.
 -- Assumes nothing.
 use Prim.Native.Nat.{_-_}
-use mathlib.Core.Path.{_≡_, refl, sym, ap, _∙_}
+use mathlib.Core.Path.{_≡_, refl}
 use native.Mathlib.Omega.{arith}
 use lib.ListN.{length}
 use Rattle.patterns.proofs.Marks.{marks-wider}
@@ -32,7 +32,7 @@ shared-slice-read-step c = search needs
 
 step-requires : tie.Need-step-requires Inv-loop μ-loop
 step-requires c κs =
-    let s = c .before .before .before .before .before .before .before .before in let g = s .args in let i = c .before .before .before .loop in
+    let l = c .before .before .before in let s = l .before .before .before .before .before in let g = s .args in let i = l .loop in
     (checked-ends (s .pre .0 .0) (g .row .now) (g .table .now) (g .pattern .now) (s .pre .0 .1), i .inv .1 .marks, walking-inside (g .row .now) (g .table .now) (g .pattern .now) (g .p) (s .pre .0) (i .marks) (i .j) (i .k) (i .inv .1) (search needs))
 
 enum-known-found : tie.Need-enum-known-found Inv-loop μ-loop
@@ -43,7 +43,7 @@ enum-told c = search needs
 
 returns : tie.Need-returns Inv-loop μ-loop
 returns c =
-    let s = c .before .before .before .before .before .before .before .before .before .before .before in let g = s .args in let i = c .before .before .before .before .before .before .loop in
+    let l = c .before .before .before .before .before .before in let s = l .before .before .before .before .before in let g = s .args in let i = l .loop in
     let missed = walking-miss (g .row .now) (g .table .now) (g .pattern .now) (g .p) (s .pre .0) (i .marks) (i .j) (i .k) (i .inv .1) (search needs) _ _ (c .before .before .step .ensures) _ (c .enum-told .given .1) in
     binds-none (g .row .now) (g .table .now) (g .pattern .now) (g .p) (g .out .now) _ (s .pre .1) missed
 
@@ -55,12 +55,12 @@ loop-less c = search needs
 
 loop-again : tie.Need-loop-again Inv-loop μ-loop
 loop-again c =
-    let s = c .before .before .before .before .before .before .before .before .before .before .before .before in let g = s .args in let i = c .before .before .before .before .before .before .before .loop in
+    let l = c .before .before .before .before .before .before .before in let s = l .before .before .before .before .before in let g = s .args in let i = l .loop in
     (refl, walking-next (g .row .now) (g .table .now) (g .pattern .now) (g .p) (s .pre .0) (i .marks) (i .j) (i .k) (i .inv .1) (search needs) _ _ (c .before .before .before .step .ensures) _ (c .before .found .given .1))
 
 write-spans-requires : tie.Need-write-spans-requires Inv-loop μ-loop
 write-spans-requires c κs =
-    let s = c .before .before .before .before .before .before .before in let g = s .args in let i = c .before .before .loop in
+    let l = c .before .before in let s = l .before .before .before .before .before in let g = s .args in let i = l .loop in
     let ends = checked-ends (s .pre .0 .0) (g .row .now) (g .table .now) (g .pattern .now) (s .pre .0 .1) in
     (marks-wider (i .j) (length (g .table .now)) (i .marks) (omega (arith, ends .long, i .inv .1 .within)) (i .inv .1 .marks), s .pre .2)
 
@@ -69,7 +69,7 @@ same-length c = search needs
 
 returns-2 : tie.Need-returns-2 Inv-loop μ-loop
 returns-2 c =
-    let s = c .before .before .before .before .before .before .before .before .before .before in let g = s .args in let i = c .before .before .before .before .before .loop in
+    let l = c .before .before .before .before .before in let s = l .before .before .before .before .before in let g = s .args in let i = l .loop in
     let through = walking-end (g .row .now) (g .table .now) (g .pattern .now) (g .p) (s .pre .0) (i .marks) (i .j) (i .k) (i .inv .1) (search needs) in
     binds-some (g .row .now) (g .table .now) (g .pattern .now) (g .p) (g .out .now) _ (i .j) (i .marks) (s .pre .1) through (c .before .before .write-spans .ensures)
 
