@@ -2,28 +2,56 @@
 use Prim.Native.Nat.{ℕ}
 use mathlib.Core.Path.{_≡_}
 use mathlib.Core.List.{List, [], _∷_, map}
-use lib.ListN.{length}
+use lib.ListN.{length, replicate}
 use Rattle.rows.specs.Parse.{table as tableOf}
+use Rattle.rows.specs.Row.{pick}
 use Rattle.rows.specs.Buffers.{written, after}
 use Rattle.rows.specs.Refusals.{_then_, number, place, alphabet, kept}
 use Rattle.rows.specs.declared.Check.{Check}
 use Rattle.rows.specs.declared.Check.the-variants.{Fine, Refused}
+use Rattle.patterns.specs.Answers.{spans}
+use Rattle.patterns.specs.Walk.{comesThrough, listOf}
 use Rattle.sparrowhem.specs.Build.{buildCheck}
+use Rattle.sparrowhem.specs.Search.{findCheck, found, bindCheck, bound}
+use Rattle.sparrowhem.specs.declared.search.Found.{Found}
+use Rattle.sparrowhem.specs.declared.search.Found.the-variants.{Matches, Refused as FindRefused}
+use Rattle.sparrowhem.specs.declared.search.Bound.{Bound}
+use Rattle.sparrowhem.specs.declared.search.Bound.the-variants.{Matched, Unmatched, Refused as BindRefused}
 
--- a call on an alphabet, a row and a table: build; or any that reads the table, up to its refusal 10
+-- a call on an alphabet, a row and a table: build; any that reads the table, up to its refusal 10; find with a pattern and
+-- an output; variables with a pattern, a position and an output
 pub data Call : Type 0 where
   build reads : List ℕ → List ℕ → List ℕ → Call
+  find : List ℕ → List ℕ → List ℕ → List ℕ → List ℕ → Call
+  variables : List ℕ → List ℕ → List ℕ → List ℕ → ℕ → List ℕ → Call
 
 -- a refusal as document 01 writes it: its number and its place
 abbrev pub shown : Check → List ℕ
 shown Fine = []
 shown (Refused r) = number r ∷ place r ∷ []
 
--- what the public call's definitions say: the refusal, if any, then what each lent buffer holds afterwards
+-- the number of the matches; 1 or 0, matched or not
+abbrev pub counted : Found → List ℕ
+counted (Matches n) = n ∷ []
+counted (FindRefused r) = number r ∷ place r ∷ []
+
+abbrev pub matched : Bound → List ℕ
+matched Matched = 1 ∷ []
+matched Unmatched = 0 ∷ []
+matched (BindRefused r) = number r ∷ place r ∷ []
+
+-- what the public call's definitions say: the answer or the refusal, then what each lent buffer holds afterwards. For find
+-- and variables it is the outcome that their promises `Find-computed` and `Variables-computed` give.
 abbrev pub said : Call → List (List ℕ)
 said (build A w t) =
     shown (buildCheck A w (length t)) ∷ after (buildCheck A w (length t)) (written t 0 (tableOf A w)) t ∷ []
 said (reads A w t) = shown (alphabet A then kept A w t) ∷ []
+said (find A w t q y) =
+    counted (found (findCheck A w t q (length (listOf A w q)) (length y)) (length (listOf A w q)))
+    ∷ after (findCheck A w t q (length (listOf A w q)) (length y)) (written y 0 (listOf A w q)) y ∷ []
+said (variables A w t q p y) =
+    matched (bound (bindCheck A w t q p (length y)) (comesThrough w (tableOf A w) q p))
+    ∷ after (bindCheck A w t q p (length y)) (pick (comesThrough w (tableOf A w) q p) (written y 0 (spans A w q p)) y) y ∷ []
 
 pub record Case : Type 0 where
   pub call : Call
@@ -42,6 +70,16 @@ ends-of-T = 9 ∷ 4 ∷ 3 ∷ 4 ∷ 6 ∷ 6 ∷ 9 ∷ 8 ∷ 9 ∷ []
 abbrev pub nine : List ℕ
 nine = 7 ∷ 7 ∷ 7 ∷ 7 ∷ 7 ∷ 7 ∷ 7 ∷ 7 ∷ 7 ∷ []
 
+-- S and X0, and the spans where X0 alone stands in the pattern
+abbrev pub S : ℕ
+S = 65535
+
+abbrev pub X0 : ℕ
+X0 = 65280
+
+abbrev pub spans-of-X0 : ℕ → ℕ → List ℕ
+spans-of-X0 b e = b ∷ e ∷ replicate 30 0
+
 -- the same with entry 4 set to 5
 abbrev pub stale-at-4 : List ℕ
 stale-at-4 = 9 ∷ 4 ∷ 3 ∷ 4 ∷ 5 ∷ 6 ∷ 9 ∷ 8 ∷ 9 ∷ []
@@ -50,6 +88,17 @@ abbrev pub cases : List Case
 cases =
     -- 1: the table of T
     record { call = build A T nine; says = [] ∷ ends-of-T ∷ [] }
+    -- 2: 3 X0 X0
+    ∷ record { call = find A T ends-of-T (3 ∷ X0 ∷ X0 ∷ []) nine; says = (2 ∷ []) ∷ (1 ∷ 6 ∷ 7 ∷ 7 ∷ 7 ∷ 7 ∷ 7 ∷ 7 ∷ 7 ∷ []) ∷ [] }
+    -- 3: 4 X0 S X0, and its variable
+    ∷ record { call = find A T ends-of-T (4 ∷ X0 ∷ S ∷ X0 ∷ []) nine; says = (1 ∷ []) ∷ (0 ∷ 7 ∷ 7 ∷ 7 ∷ 7 ∷ 7 ∷ 7 ∷ 7 ∷ 7 ∷ []) ∷ [] }
+    ∷ record { call = variables A T ends-of-T (4 ∷ X0 ∷ S ∷ X0 ∷ []) 0 (replicate 32 7); says = (1 ∷ []) ∷ spans-of-X0 1 4 ∷ [] }
+    -- 4: 4 X0 X0 S
+    ∷ record { call = find A T ends-of-T (4 ∷ X0 ∷ X0 ∷ S ∷ []) nine; says = (0 ∷ []) ∷ nine ∷ [] }
+    -- 5: S
+    ∷ record { call = find A T ends-of-T (S ∷ []) nine; says = (9 ∷ []) ∷ (0 ∷ 1 ∷ 2 ∷ 3 ∷ 4 ∷ 5 ∷ 6 ∷ 7 ∷ 8 ∷ []) ∷ [] }
+    -- 6: X0 at position 0
+    ∷ record { call = variables A T ends-of-T (X0 ∷ []) 0 (replicate 32 7); says = (1 ∷ []) ∷ spans-of-X0 0 9 ∷ [] }
     -- 9: a row that ends early; two that go on, the second with a bad number; a bad number before the row's end
     ∷ record { call = build A (3 ∷ 0 ∷ []) nine; says = (8 ∷ 2 ∷ []) ∷ nine ∷ [] }
     ∷ record { call = build A (0 ∷ 0 ∷ []) nine; says = (9 ∷ 1 ∷ []) ∷ nine ∷ [] }

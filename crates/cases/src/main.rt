@@ -3,9 +3,13 @@
 mod building;
 mod handing;
 mod printing;
+mod searching;
 
 fn main() {
     building::small();
     building::limits();
     handing::subtrees();
+    searching::worked();
+    searching::traps();
+    searching::refusals();
 }

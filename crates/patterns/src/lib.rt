@@ -78,13 +78,13 @@ fn meet(row: &[u16], table: &[u16], i: usize, j: usize, marks: &mut [u16; 16]) -
     ensures { λ r. ⌜ Done (meets (now (row .entry)) (now (table .entry)) j (now (marks .entry)) i (getD (now (marks .entry)) i 0)) (now (marks .entry)) r (now (marks .exit)) ⌝ }
 {
     let end = table[j] as usize;
-    let m = marks[i] as usize;
-    if m == 0 {
+    let mark = marks[i] as usize;
+    if mark == 0 {
         marks[i] = (j + 1) as u16;
         return Stepped::To(end);
     }
     let n = end - j;
-    let equal = count_same(row, m - 1, j, n);
+    let equal = count_same(row, mark - 1, j, n);
     if equal == n {
         return Stepped::To(end);
     }

@@ -19,14 +19,14 @@ shared-slice-read-end c = search needs
 cast-end : tie.Need-cast-end
 cast-end c = omega (arith, c .shared-slice-known3 .given (c .before .before .before .args .j))
 
-mul-m : tie.Need-mul-m
-mul-m c = search needs
+mul-mark : tie.Need-mul-mark
+mul-mark c = search needs
 
-element-copy-out-m : tie.Need-element-copy-out-m
-element-copy-out-m c = search needs
+element-copy-out-mark : tie.Need-element-copy-out-mark
+element-copy-out-mark c = search needs
 
-cast-m : tie.Need-cast-m
-cast-m c = let s = c .before .before .before .before in omega (arith, s .pre .1 .all (s .args .i))
+cast-mark : tie.Need-cast-mark
+cast-mark c = let s = c .before .before .before .before in omega (arith, s .pre .1 .all (s .args .i))
 
 add-marks : tie.Need-add-marks
 add-marks c = search needs
@@ -82,9 +82,9 @@ meet-spec =
     mul-end
     shared-slice-read-end
     cast-end
-    mul-m
-    element-copy-out-m
-    cast-m
+    mul-mark
+    element-copy-out-mark
+    cast-mark
     add-marks
     cast-marks
     mul-marks
