@@ -39,17 +39,17 @@ abbrev pub facing : List ℕ → List ℕ → List ℕ → ℕ → List ℕ
 facing A w q p = faced p (single (treeOf A q)) (single (subtreeAt (parse A w) p))
 
 -- it is variable i
-abbrev pub variableIs : ℕ → Leaf → Bool
-variableIs i Plain = false
-variableIs i Blank = false
-variableIs i (Variable k) = eqb k i
+abbrev pub isLeaf : ℕ → Leaf → Bool
+isLeaf i Plain = false
+isLeaf i Blank = false
+isLeaf i (Variable k) = eqb k i
 
 -- Begin and end of variable i, for a pattern q whose numbers face the positions ps of a row with the table t: those of
 -- the subtree at the variable's first place; 0 and 0 if the pattern lacks it.
 unfoldable pub span : List ℕ → ℕ → List ℕ → List ℕ → List ℕ
 span t i [] ps = 0 ∷ 0 ∷ []
 span t i (s ∷ q) [] = 0 ∷ 0 ∷ []
-span t i (s ∷ q) (p ∷ ps) = pick (variableIs i (leaf s)) (p ∷ getD t p 0 ∷ []) (span t i q ps)
+span t i (s ∷ q) (p ∷ ps) = pick (isLeaf i (leaf s)) (p ∷ getD t p 0 ∷ []) (span t i q ps)
 
 -- those of the variables below n, one after the other
 unfoldable pub spansBelow : List ℕ → ℕ → List ℕ → List ℕ → List ℕ
