@@ -21,7 +21,14 @@ fn found(arities: &[u16], row: &[u16], table: &[u16], pattern: &[u16], out: &mut
 }
 
 // Matched or not, or the refusal; then the output.
-fn bound(arities: &[u16], row: &[u16], table: &[u16], pattern: &[u16], position: usize, out: &mut [u16]) {
+fn bound(
+    arities: &[u16],
+    row: &[u16],
+    table: &[u16],
+    pattern: &[u16],
+    position: usize,
+    out: &mut [u16],
+) {
     match sparrowhem::variables(arities, row, table, pattern, position, out) {
         Bound::Refused(r) => refusal(r),
         Bound::Matched => {
@@ -66,7 +73,13 @@ pub fn traps() {
     title(b"find: subtrees of one length and one root, which differ");
     let near: [u16; 8] = [4, 3, 0, 0, 0, 3, 0, 1];
     let near_ends: [u16; 8] = [8, 4, 3, 4, 5, 8, 7, 8];
-    found(&a, &near, &near_ends, &[4u16, 65280, 65535, 65280], &mut three);
+    found(
+        &a,
+        &near,
+        &near_ends,
+        &[4u16, 65280, 65535, 65280],
+        &mut three,
+    );
     title(b"find: S skips one subtree, so that 2 1 stands behind it");
     let t: [u16; 9] = [4, 3, 0, 0, 2, 1, 3, 0, 0];
     let ends: [u16; 9] = [9, 4, 3, 4, 6, 6, 9, 8, 9];

@@ -1,4 +1,4 @@
--- The promises on replace, in document 01's words. Each is proved in proofs/EditPromises, under the same name in small
+-- The promises on replace, in document 01's words. Each is proved in proofs/Edits, under the same name in small
 -- letters.
 use Prim.Native.Nat.{ℕ, _+_, _-_, _<_, _≤_, max}
 use mathlib.Core.Path.{_≡_}
@@ -14,11 +14,11 @@ use Rattle.rows.specs.declared.Refusal.{Refusal}
 use Rattle.rows.specs.declared.Check.the-variants.{Fine}
 use Rattle.patterns.specs.Answers.{MatchesAt, spans}
 use Rattle.edits.specs.Put.{extent, changed}
 use Rattle.sparrowhem.specs.declared.edit.Replaced.{Replaced}
 use Rattle.sparrowhem.specs.declared.edit.Replaced.the-variants.{Done, Refused}
 use Rattle.sparrowhem.specs.Build.{Built}
 use Rattle.sparrowhem.specs.Edit.{Replacement}
-use Rattle.sparrowhem.specs.Runs.{State, Call, Run, edits, Holds}
+use Rattle.promises.specs.Runs.{State, Call, Run, edits, Holds}
 
 -- Replace's contract settles its answer and both buffers: two outcomes are equal.
 abbrev pub Replace-settled : Type 0

@@ -1,4 +1,4 @@
--- The promises of specs/EditPromises, each with its proof.
+-- The promises of specs/Edits, each with its proof.
 -- Assumes nothing.
 use Prim.Native.Nat.{ℕ, _+_, _-_, _<_, max}
 use mathlib.Core.Path.{_≡_, refl, sym, ap, ap₂, _∙_, subst}
@@ -25,14 +25,14 @@ use Rattle.edits.specs.Put.{put, extent, changed}
 use Rattle.edits.proofs.Put.{put-size, put-below, at-ranked, at-fits, size-single}
 use Rattle.edits.proofs.Ends.{end-at, nests}
 use Rattle.edits.proofs.Positions.{at-left, at-behind, put-back, put-swap}
 use Rattle.sparrowhem.specs.declared.edit.Replaced.{Replaced}
 use Rattle.sparrowhem.specs.declared.edit.Replaced.the-variants.{Done, Refused}
 use Rattle.sparrowhem.specs.Edit.{replaceCheck, Replacement}
-use Rattle.sparrowhem.specs.Runs.{State, Call, Run, edit, edits, Holds, lengthAfter}
-use Rattle.sparrowhem.specs.EditPromises.{Replace-settled, Replace-refused, Replace-writes, Any-run, Putting-back, Either-order, Others-stay, movedSpan, Patterns-stay}
+use Rattle.promises.specs.Runs.{State, Call, Run, edit, edits, Holds, lengthAfter}
+use Rattle.promises.specs.Edits.{Replace-settled, Replace-refused, Replace-writes, Any-run, Putting-back, Either-order, Others-stay, movedSpan, Patterns-stay}
 use Rattle.sparrowhem.proofs.Replacing.{replace-held, replace-able, able-sizes, replacement-whole, replace-goes}
-use Rattle.sparrowhem.proofs.Spanning.{spans-stay, map-same}
-use Rattle.sparrowhem.proofs.Holding.{Went, goes, went, stayed, same-lengths, holds-changed, held-once, built-holds}
+use Rattle.promises.proofs.Spanning.{spans-stay, map-same}
+use Rattle.promises.proofs.Holding.{Went, goes, went, stayed, same-lengths, holds-changed, held-once, built-holds}
 
 pub replace-settled : Replace-settled
 replace-settled A row t n v p r₁ r₂ row₁ row₂ t₁ t₂ a b =

@@ -31,13 +31,13 @@ use Rattle.buffers.proofs.Written.{length-written}
 use Rattle.buffers.proofs.Renewed.{take-renewed, length-renewed}
 use Rattle.edits.specs.Put.{changed}
 use Rattle.edits.proofs.Put.{put-count, put-ranked, put-below, below}
 use Rattle.sparrowhem.specs.declared.edit.Replaced.{Replaced}
 use Rattle.sparrowhem.specs.declared.edit.Replaced.the-variants.{Done, Refused as Unreplaced}
 use Rattle.sparrowhem.specs.Build.{buildCheck, Built}
 use Rattle.sparrowhem.specs.Edit.{heldCheck, replaceCheck, answered, Replacement}
-use Rattle.sparrowhem.specs.Runs.{Holds}
+use Rattle.promises.specs.Runs.{Holds}
 use Rattle.sparrowhem.proofs.Building.{build-fillable}
 use Rattle.sparrowhem.proofs.Replacing.{held-fine, replace-held, replace-able}
 
 -- ---- held rows
 

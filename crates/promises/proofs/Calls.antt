@@ -1,4 +1,4 @@
--- The promises of specs/Promises, each with its proof.
+-- The promises of specs/Calls, each with its proof.
 -- Assumes nothing.
 use Prim.Native.Nat.{ℕ, _+_, _-_, _<_}
 use mathlib.Core.Path.{_≡_, refl, sym, ap, ap₂, _∙_, subst}
@@ -19,22 +19,22 @@ use Rattle.rows.proofs.Buffers.{written-front}
 use Rattle.rows.proofs.Entry.{length-table}
 use Rattle.rows.proofs.Promises.{table-of-row}
 use Rattle.tables.proofs.Given.{row-fine}
 use Rattle.sparrowhem.specs.Build.{buildCheck}
-use Rattle.sparrowhem.specs.Promises.{Build-settled, Build-refused, Build-accepts, Build-writes, Subtree-part, Subtree-empty, Find-settled, Find-refused, Find-lists, Find-short, Find-computed, Variables-settled, Variables-matched, Variables-unmatched, Variables-refused, Variables-computed}
+use Rattle.promises.specs.Calls.{Build-settled, Build-refused, Build-accepts, Build-writes, Subtree-part, Subtree-empty, Find-settled, Find-refused, Find-lists, Find-short, Find-computed, Variables-settled, Variables-matched, Variables-unmatched, Variables-refused, Variables-computed}
 use Rattle.sparrowhem.specs.Parts.{subtreePart, subtreeAnswer}
 use Rattle.sparrowhem.specs.declared.parts.Placed.{Placed}
 use Rattle.sparrowhem.specs.declared.parts.Placed.the-variants.{Span, Unplaced}
 use Rattle.rows.specs.declared.Refusal.the-variants.{OutputShort}
 use Rattle.patterns.specs.Answers.{Listed, spans}
 use Rattle.patterns.specs.Walk.{listOf}
 use Rattle.patterns.proofs.Promises.{walk-lists, spans-long}
 use Rattle.sparrowhem.specs.Search.{output, findCheck, found}
 use Rattle.sparrowhem.specs.declared.search.Found.the-variants.{Matches, Refused as FindRefused}
 use Rattle.sparrowhem.specs.declared.search.Bound.the-variants.{Matched, Unmatched, Refused as BindRefused}
 use Rattle.sparrowhem.proofs.Searching.{written-behind, search-checked, finds-list, finds-matches, finds-kept, binds-walk, binds-tells}
 use native.Mathlib.Decide.{decLt}
 use borrow.Author.Tests.{lt-ltb, le-ltb}
 use Rattle.sparrowhem.proofs.Handing.{answer-span, answer-none, span-within, span-part}
 use Rattle.rows.specs.declared.Refusal.{Refusal}
 use native.Mathlib.Omega.{arith}
 

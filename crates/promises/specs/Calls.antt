@@ -1,4 +1,4 @@
--- The promises on the public calls, in document 01's words. Each is proved in proofs/Promises, under the same name in
+-- The promises on the public calls, in document 01's words. Each is proved in proofs/Calls, under the same name in
 -- small letters.
 use Prim.Native.Nat.{ℕ, _-_, _<_, _≤_}
 use mathlib.Core.Path.{_≡_}

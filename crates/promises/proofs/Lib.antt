@@ -1,0 +1,4 @@
+pub mod Holding
+pub mod Spanning
+pub mod Calls
+pub mod Edits
