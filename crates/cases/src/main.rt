@@ -12,4 +12,6 @@ fn main() {
     searching::worked();
     searching::traps();
     searching::refusals();
+    searching::rooms();
+    searching::lengths();
 }

@@ -96,15 +96,10 @@ pub fn refusals() {
     let a: [u16; 5] = [0, 0, 1, 2, 3];
     let t: [u16; 9] = [4, 3, 0, 0, 2, 1, 3, 0, 0];
     let ends: [u16; 9] = [9, 4, 3, 4, 6, 6, 9, 8, 9];
+    let empty: [u16; 1] = [7];
     let mut two = [7u16; 2];
-    title(b"find: just room, one place short, no place; no match in no place");
-    found(&a, &t, &ends, &[3u16, 65280, 65280], &mut two);
-    let mut one = [7u16; 1];
-    found(&a, &t, &ends, &[3u16, 65280, 65280], &mut one);
-    found(&a, &t, &ends, &[65535u16], &mut one[0..0]);
-    found(&a, &t, &ends, &[2u16, 0], &mut one[0..0]);
     title(b"find: patterns that are no tree's, and numbers that may not stand in one");
-    found(&a, &t, &ends, &a[0..0], &mut two);
+    found(&a, &t, &ends, &empty[0..0], &mut two);
     found(&a, &t, &ends, &[3u16, 65280], &mut two);
     found(&a, &t, &ends, &[65280u16, 0], &mut two);
     found(&a, &t, &ends, &[3u16, 5, 0], &mut two);
@@ -113,21 +108,40 @@ pub fn refusals() {
     found(&a, &t, &ends, &[65534u16], &mut two);
     title(b"find: a stale entry that the search would never read, before an empty pattern");
     let last: [u16; 9] = [9, 4, 3, 4, 6, 6, 9, 8, 8];
-    found(&a, &t, &last, &a[0..0], &mut two);
+    found(&a, &t, &last, &empty[0..0], &mut two);
+}
+
+pub fn rooms() {
+    let a: [u16; 5] = [0, 0, 1, 2, 3];
+    let t: [u16; 9] = [4, 3, 0, 0, 2, 1, 3, 0, 0];
+    let ends: [u16; 9] = [9, 4, 3, 4, 6, 6, 9, 8, 9];
+    title(b"find: just room, one place short; all of T, and nothing, in no place");
+    let mut two = [7u16; 2];
+    found(&a, &t, &ends, &[3u16, 65280, 65280], &mut two);
+    let mut one = [7u16; 1];
+    found(&a, &t, &ends, &[3u16, 65280, 65280], &mut one);
+    found(&a, &t, &ends, &[65535u16], &mut one[0..0]);
+    let mut other = [7u16; 1];
+    found(&a, &t, &ends, &[2u16, 0], &mut other[0..0]);
+    title(b"variables: 17 before 19; 19 with 31 places, matched or not; 32 are enough");
+    let mut few = [7u16; 31];
+    bound(&a, &t, &ends, &[65280u16], 9, &mut two);
+    bound(&a, &t, &ends, &[65280u16], 65536, &mut few);
+    bound(&a, &t, &ends, &[65280u16], 8, &mut few);
+    bound(&a, &t, &ends, &[3u16, 65280, 65280], 0, &mut few);
+    let mut spans = [7u16; 32];
+    bound(&a, &t, &ends, &[65280u16], 8, &mut spans);
+}
+
+pub fn lengths() {
     title(b"find: patterns of 256 and 257 numbers");
-    let b: [u16; 2] = [0, 1];
-    let mut deep = [1u16; 257];
-    deep[255] = 65280;
+    let a: [u16; 2] = [0, 1];
+    let mut pattern = [1u16; 257];
+    pattern[255] = 65280;
     let mut row = [1u16; 256];
     row[255] = 0;
     let table = [256u16; 256];
-    found(&b, &row, &table, &deep[0..256], &mut two);
-    found(&b, &row, &table, &deep, &mut two);
-    title(b"variables: 17 before 19; 19 with 31 places, matched or not; 32 are enough");
-    let mut spans = [7u16; 32];
-    bound(&a, &t, &ends, &[65280u16], 9, &mut two);
-    bound(&a, &t, &ends, &[65280u16], 65536, &mut spans);
-    bound(&a, &t, &ends, &[65280u16], 8, &mut spans[0..31]);
-    bound(&a, &t, &ends, &[3u16, 65280, 65280], 0, &mut spans[0..31]);
-    bound(&a, &t, &ends, &[65280u16], 8, &mut spans);
+    let mut two = [7u16; 2];
+    found(&a, &row, &table, &pattern[0..256], &mut two);
+    found(&a, &row, &table, &pattern, &mut two);
 }

@@ -19,7 +19,8 @@ use Rattle.rows.specs.declared.Leaves.the-variants.{Blanks, Symbols}
 use Rattle.rows.proofs.Accept.{enough}
 use Rattle.tables.proofs.Given.{right-entry}
 use Rattle.patterns.specs.Pattern.{leaf}
-use Rattle.patterns.specs.Answers.{faced, facing, isLeaf, span, spansBelow, Checked, Binds}
+use Rattle.patterns.specs.Answers.{faced, facing, isLeaf, span, spansBelow}
+use Rattle.patterns.specs.Searches.{Checked, Binds}
 use Rattle.patterns.specs.Walk.{sameSymbol, agreeing, Outcome, Outcome.misses, Outcome.reaches, meets, takes, steps, onward, walk, unmarked, markBegin, markEnd, markSpans}
 use Rattle.patterns.specs.declared.Leaf.{Leaf}
 use Rattle.patterns.specs.declared.Leaf.the-variants.{Plain, Blank, Variable}

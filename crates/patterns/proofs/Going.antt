@@ -22,7 +22,7 @@ use Rattle.rows.proofs.Behind.{behind, count-behind, enough-behind}
 use Rattle.rows.proofs.Entry.{entry-first, behind-some}
 use Rattle.tables.proofs.Given.{right-entry}
 use Rattle.patterns.specs.Pattern.{leaf}
-use Rattle.patterns.specs.Answers.{Checked, Searchable}
+use Rattle.patterns.specs.Searches.{Checked, Searchable}
 use Rattle.patterns.specs.Walk.{sameSymbol, agreeing, Outcome, Outcome.misses, Outcome.reaches, meets, takes, steps, onward, walk, unmarked, MarksIn, stepped, marksAfter, Done}
 use Rattle.patterns.specs.declared.Leaf.{Leaf}
 use Rattle.patterns.specs.declared.Leaf.the-variants.{Plain, Blank, Variable}

@@ -13,7 +13,8 @@ use lib.ListN.{getD, length, length-append, List·getD-append}
 use lib.Seq.{getD-at}
 use Rattle.rows.specs.Row.{pick}
 use Rattle.rows.specs.Buffers.{written}
-use Rattle.patterns.specs.Answers.{MatchesAt, Listed, Checked, Next, Counts, Lists, Room}
+use Rattle.patterns.specs.Answers.{MatchesAt, Listed}
+use Rattle.patterns.specs.Searches.{Checked, Next, Counts, Lists, Room}
 use Rattle.patterns.specs.Walk.{comesThrough, below}
 use Rattle.patterns.proofs.Matching.{right}
 

@@ -10,7 +10,8 @@ use lib.ListN.{getD, length}
 use Rattle.rows.specs.Tree.{Forest, Forest.none, Tree, single, prefix, subtreeAt}
 use Rattle.rows.specs.Parse.{parse, treeOf}
 use Rattle.patterns.specs.Pattern.{leaf, plug, filled}
-use Rattle.patterns.specs.Answers.{MatchesAt, Checked, Searchable, Next}
+use Rattle.patterns.specs.Answers.{MatchesAt}
+use Rattle.patterns.specs.Searches.{Checked, Searchable, Next}
 use Rattle.patterns.specs.Walk.{sameSymbol, Outcome.misses, Outcome.reaches, walk, unmarked}
 use Rattle.patterns.specs.declared.Leaf.{Leaf}
 use Rattle.patterns.specs.declared.Leaf.the-variants.{Plain, Blank, Variable}

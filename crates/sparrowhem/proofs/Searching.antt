@@ -23,7 +23,8 @@ use Rattle.rows.specs.declared.Refusal.the-variants.{AlphabetSize, Position, Ou
 use Rattle.rows.specs.declared.Check.{Check}
 use Rattle.rows.specs.declared.Check.the-variants.{Fine, Refused}
 use Rattle.tables.proofs.Given.{both-fine, given-right}
-use Rattle.patterns.specs.Answers.{MatchesAt, Listed, spans, Checked, Lists, Binds as Bound-at}
+use Rattle.patterns.specs.Answers.{MatchesAt, Listed, spans}
+use Rattle.patterns.specs.Searches.{Checked, Lists, Binds as Bound-at}
 use Rattle.patterns.specs.Walk.{comesThrough}
 use Rattle.patterns.proofs.Promises.{one-list, walk-right}
 use Rattle.sparrowhem.specs.Search.{searchCheck, output, findCheck, found, Finds, bindCheck, bound, Binds}

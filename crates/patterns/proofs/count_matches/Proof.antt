@@ -4,7 +4,7 @@ use Prim.Native.Nat.{ℕ, _-_, _≤_}
 use mathlib.Core.List.{List}
 use native.Mathlib.Omega.{arith}
 use lib.ListN.{length}
-use Rattle.patterns.specs.Answers.{Checked}
+use Rattle.patterns.specs.Searches.{Checked}
 use Rattle.patterns.proofs.Listing.{Tally, tally-start, tally-more, tally-end}
 use borrow.Author.Needs.{needs}
 use Rattle.patterns.proofs.count_matches.Statement.{statement}

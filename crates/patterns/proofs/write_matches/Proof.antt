@@ -6,7 +6,7 @@ use mathlib.Core.List.{List}
 use native.Mathlib.Omega.{arith}
 use lib.ListN.{length, set, length-set}
 use Rattle.rows.specs.Buffers.{written}
-use Rattle.patterns.specs.Answers.{Checked}
+use Rattle.patterns.specs.Searches.{Checked}
 use Rattle.patterns.proofs.Listing.{Tally, tally-start, tally-more, tally-end, tally-room, lists-all}
 use Rattle.patterns.proofs.Writing.{written-none, written-more}
 use borrow.Author.Needs.{needs}
