@@ -43,14 +43,14 @@ pub fn check_pattern(arities: &[u16], list: &[u16]) -> Check
 }
 
 // Are two symbols the same? Symbols are compared here only.
-fn same(x: u16, y: u16) -> bool
+pub fn same(x: u16, y: u16) -> bool
     ensures { λ r. ⌜ r ≡ sameSymbol x y ⌝ }
 {
     x == y
 }
 
 // How many of the n symbols from a on are the same as those from b on: left at the first that differs.
-fn count_same(row: &[u16], a: usize, b: usize, n: usize) -> usize
+pub fn count_same(row: &[u16], a: usize, b: usize, n: usize) -> usize
     requires { ⌜ (a + n ≤ length (now row)) × (b + n ≤ length (now row)) ⌝ }
     ensures { λ r. ⌜ r ≡ sameFront (take n (drop a (now (row .entry)))) (take n (drop b (now (row .entry)))) ⌝ }
 {

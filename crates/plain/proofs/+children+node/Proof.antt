@@ -1,0 +1,339 @@
+-- `plain::node` and `plain::children`, which call each other, meet their contracts. The measure is twice the length of the
+-- pattern that is left, and one more for the row of children: a node hands a shorter pattern to its row of children, which
+-- hands the same to its first node.
+-- Assumes nothing.
+use borrow.Author.Needs.{needs}
+use Prim.Native.Nat.{ℕ, _<_, _+_, _*_}
+use mathlib.Core.Path.{refl, sym, _∙_}
+use native.Mathlib.Omega.{arith}
+use lib.ListN.{length}
+use Rattle.plain.specs.Plain.{Passes}
+use Rattle.plain.proofs.Trying.{tells-past, tells-miss, lent-within, pattern-some, rest-some, taken, lent-inside, passes-inside, misses-inside, shorter-inside, misses-plain, passes-blank, meetable, passes-met, misses-met, lent-first, lent-others, passes-others, misses-others, shorter-others, passes-none}
+use borrow.Fn.Kinds.{In}
+use borrow.Fn.PlainCycle.{Measures, is, falls, and}
+use Rattle.plain.proofs.children.Reads as children
+use Rattle.plain.proofs.children.Kinds as children-kinds
+use Rattle.plain.proofs.+children+node.Lts-children as children-lts
+use Rattle.plain.proofs.node.Reads as node
+use Rattle.plain.proofs.node.Kinds as node-kinds
+use Rattle.plain.proofs.+children+node.Lts-node as node-lts
+use Rattle.patterns.proofs.leaf_of.Reads as leaf-of-reads
+use Rattle.patterns.proofs.same.Reads as same-reads
+use Rattle.plain.proofs.meet.Reads as meet-reads
+use Rattle.rows.proofs.arity_of.Reads as arity-of-reads
+use Rattle.tables.proofs.tree_length.Reads as tree-length-reads
+use Rattle.plain.proofs.+children+node.{statement}
+use Rattle.plain.proofs.+children+node.Tie.{close}
+
+abbrev μ-children : Measures 5 children-kinds.ps ℕ
+μ-children κs a = 2 * length (a .1 .1 .0 .now) + 1
+
+abbrev μ-node : Measures 5 node-kinds.ps ℕ
+μ-node κs a = 2 * length (a .1 .0 .now)
+
+-- at the measure t: what each is given, and what a call of it asks
+module _ (t : ℕ) where
+  abbrev children-at : In 5 children-kinds.ps
+  children-at = and 5 children-kinds.ps (is 5 children-kinds.ps μ-children t) children.Pre
+
+  abbrev children-below : In 5 children-kinds.ps
+  children-below = and 5 children-kinds.ps (falls 5 children-kinds.ps _<_ μ-children t) children.Pre
+
+  abbrev node-at : In 5 node-kinds.ps
+  node-at = and 5 node-kinds.ps (is 5 node-kinds.ps μ-node t) node.Pre
+
+  abbrev node-below : In 5 node-kinds.ps
+  node-below = and 5 node-kinds.ps (falls 5 node-kinds.ps _<_ μ-node t) node.Pre
+
+  -- the functions that each calls
+  abbrev children-calls : children-lts.Claims
+  children-calls = (node-below, node.Post, children-below, children.Post)
+
+  abbrev node-calls : node-lts.Claims
+  node-calls = (same-reads.Asked, same-reads.Learnt, arity-of-reads.Asked, arity-of-reads.Learnt, children-below, children.Post, leaf-of-reads.Asked, leaf-of-reads.Learnt, tree-length-reads.Asked, tree-length-reads.Learnt, meet-reads.Asked, meet-reads.Learnt)
+
+  -- what the first tells
+  first-passes : (c : children-lts.After-first children-calls children-at children.Post)
+      → (let s = c .before .before .before .before .before .before .before .before .before .args in
+      Passes (s .arities .now) (s .pattern .now) (s .part .now) (s .rest .now) (s .marks .now) 1 (c .first .given .0 .0) (c .first .given .0 .1 .0) (c .before .before .node .last .1 .1 .1 .1 .0))
+  first-passes c = c .before .before .node .ensures .past _ _ (c .first .given .1)
+
+  others-passes : (c : children-lts.After-others children-calls children-at children.Post)
+      → (let f = c .before .before .before .before .before .before .before in
+      let s = f .before .before .before .before .before .before .before .before .before .args in
+      Passes (s .arities .now) (s .pattern .now) (s .part .now) (s .rest .now) (s .marks .now) (s .k) (f .first .given .0 .0 + c .others .given .0 .0) (f .first .given .0 .1 .0 + c .others .given .0 .1 .0) (c .before .before .children .last .1 .1 .1 .1 .1 .0))
+  others-passes c =
+      let f = c .before .before .before .before .before .before .before in
+      let s = f .before .before .before .before .before .before .before .before .before in
+      passes-others _ _ _ _ _ _ (s .pre .1) (omega (arith, f .before .before .before .before .if1 .left)) _ _ _ (first-passes f) _ _ _
+      (c .before .before .children .ensures .past _ _ (c .others .given .1))
+
+  children-returns : children-lts.Need-returns children-calls children-at children.Post
+  children-returns c =
+      let s = c .before .before .before .before .before in
+      tells-past (passes-none _ _ _ _ _ _ (c .if1 .taken) (s .pre .1))
+
+  children-node-requires : children-lts.Need-node-requires children-calls children-at children.Post
+  children-node-requires c κs =
+      let s = c .before .before .before .before .before .before in
+      (omega (arith, s .pre .0), lent-first _ _ _ _ _ _ (s .pre .1) (omega (arith, c .before .if1 .left)))
+
+  children-enum-known-first : children-lts.Need-enum-known-first children-calls children-at children.Post
+  children-enum-known-first c = search needs
+
+  children-enum-told : children-lts.Need-enum-told children-calls children-at children.Post
+  children-enum-told c = search needs
+
+  children-returns-2 : children-lts.Need-returns-2 children-calls children-at children.Post
+  children-returns-2 c =
+      tells-miss _ _ _ _ _ _ _ _ _ (c .enum-told .given .1) (c .before .before .node .ensures .miss _ (c .enum-told .given .1))
+
+  children-sub-children : children-lts.Need-sub-children children-calls children-at children.Post
+  children-sub-children c = search needs
+
+  children-mul-children : children-lts.Need-mul-children children-calls children-at children.Post
+  children-mul-children c = omega (arith, taken (first-passes (c .before)) .0, c .before .before .before .before .before .before .before .before .before .before .good)
+
+  children-sub-children-2 : children-lts.Need-sub-children-2 children-calls children-at children.Post
+  children-sub-children-2 c = taken (first-passes (c .before)) .0
+
+  children-part-children-start : children-lts.Need-part-children-start children-calls children-at children.Post
+  children-part-children-start c = taken (first-passes (c .before)) .0
+
+  children-part-children-end : children-lts.Need-part-children-end children-calls children-at children.Post
+  children-part-children-end c = search needs
+
+  children-mul-children-2 : children-lts.Need-mul-children-2 children-calls children-at children.Post
+  children-mul-children-2 c = omega (arith, taken (first-passes (c .before .before)) .1, c .before .before .before .before .before .before .before .before .before .before .before .good)
+
+  children-sub-children-3 : children-lts.Need-sub-children-3 children-calls children-at children.Post
+  children-sub-children-3 c = taken (first-passes (c .before .before)) .1
+
+  children-part-children-start-2 : children-lts.Need-part-children-start-2 children-calls children-at children.Post
+  children-part-children-start-2 c = taken (first-passes (c .before .before)) .1
+
+  children-part-children-end-2 : children-lts.Need-part-children-end-2 children-calls children-at children.Post
+  children-part-children-end-2 c = search needs
+
+  children-children-requires : children-lts.Need-children-requires children-calls children-at children.Post
+  children-children-requires c κs =
+      let f = c .before .before .before .before in
+      let s = f .before .before .before .before .before .before .before .before .before in
+      let more : 0 < s .args .k = omega (arith, f .before .before .before .before .if1 .left) in
+      let g = first-passes f in (
+        omega (arith, s .pre .0, shorter-others _ _ _ _ _ _ (s .pre .1) more _ _ _ g),
+        lent-others _ _ _ _ _ _ (s .pre .1) more _ _ _ g,
+      )
+
+  children-enum-known-others : children-lts.Need-enum-known-others children-calls children-at children.Post
+  children-enum-known-others c = search needs
+
+  children-enum-told-2 : children-lts.Need-enum-told-2 children-calls children-at children.Post
+  children-enum-told-2 c = search needs
+
+  children-returns-3 : children-lts.Need-returns-3 children-calls children-at children.Post
+  children-returns-3 c =
+      let f = c .before .before .before .before .before .before .before in
+      let s = f .before .before .before .before .before .before .before .before .before in
+      tells-miss _ _ _ _ _ _ _ _ _ (c .enum-told2 .given .1)
+      (misses-others _ _ _ _ _ _ (s .pre .1) (omega (arith, f .before .before .before .before .if1 .left)) _ _ _ (first-passes f) _
+      (c .before .before .children .ensures .miss _ (c .enum-told2 .given .1)))
+
+  children-add-t16 : children-lts.Need-add-t16 children-calls children-at children.Post
+  children-add-t16 c = omega (arith, taken (others-passes (c .before)) .0, c .before .before .before .before .before .before .before .before .before .before .before .before .before .before .before .before .before .good)
+
+  children-add-t23 : children-lts.Need-add-t23 children-calls children-at children.Post
+  children-add-t23 c = omega (arith, taken (others-passes (c .before)) .1, c .before .before .before .before .before .before .before .before .before .before .before .before .before .before .before .before .before .good)
+
+  children-returns-4 : children-lts.Need-returns-4 children-calls children-at children.Post
+  children-returns-4 c = tells-past (others-passes (c .before))
+
+  -- what the children of the first node tell
+  inside-passes : (c : node-lts.After-found node-calls node-at node.Post)
+      → (let s = c .before .before .before .before .before .before .before .before .before .before .before .before .before .before .before .args in
+      Passes (s .arities .now) (s .pattern .now) (s .part .now) (s .rest .now) (s .marks .now) 1 (c .found .given .0 .0 + 1) (c .found .given .0 .1 .0 + 1) (c .before .before .children .last .1 .1 .1 .1 .1 .0))
+  inside-passes c =
+      let a = c .before .before .before .before .before .before in
+      let s = a .before .before .before .before .before .before .before .before .before in
+      passes-inside _ _ _ _ _ (s .pre .1) (sym (a .before .before .same .ensures) ∙ a .before .if1 .taken) _ (a .arity-of .ensures) _ _ _
+      (c .before .before .children .ensures .past _ _ (c .found .given .1))
+
+  node-shared-slice-read-s : node-lts.Need-shared-slice-read-s node-calls node-at node.Post
+  node-shared-slice-read-s c = let s = c .before .before .before .before .before in pattern-some _ _ _ _ _ _ (s .pre .1) (omega arith)
+
+  node-shared-slice-read-same : node-lts.Need-shared-slice-read-same node-calls node-at node.Post
+  node-shared-slice-read-same c = let s = c .before .before .before .before .before .before in rest-some _ _ _ _ _ _ (s .pre .1) (omega arith)
+
+  node-same-requires : node-lts.Need-same-requires node-calls node-at node.Post
+  node-same-requires c κs = search needs
+
+  node-arity-of-requires : node-lts.Need-arity-of-requires node-calls node-at node.Post
+  node-arity-of-requires c κs = search needs
+
+  node-sub-children : node-lts.Need-sub-children node-calls node-at node.Post
+  node-sub-children c = let s = c .before .before .before .before .before .before .before .before .before in pattern-some _ _ _ _ _ _ (s .pre .1) (omega arith)
+
+  node-part-children-start : node-lts.Need-part-children-start node-calls node-at node.Post
+  node-part-children-start c = let s = c .before .before .before .before .before .before .before .before .before in pattern-some _ _ _ _ _ _ (s .pre .1) (omega arith)
+
+  node-part-children-end : node-lts.Need-part-children-end node-calls node-at node.Post
+  node-part-children-end c = search needs
+
+  node-sub-children-2 : node-lts.Need-sub-children-2 node-calls node-at node.Post
+  node-sub-children-2 c = let s = c .before .before .before .before .before .before .before .before .before .before in rest-some _ _ _ _ _ _ (s .pre .1) (omega arith)
+
+  node-part-children-start-2 : node-lts.Need-part-children-start-2 node-calls node-at node.Post
+  node-part-children-start-2 c = let s = c .before .before .before .before .before .before .before .before .before .before in rest-some _ _ _ _ _ _ (s .pre .1) (omega arith)
+
+  node-part-children-end-2 : node-lts.Need-part-children-end-2 node-calls node-at node.Post
+  node-part-children-end-2 c = search needs
+
+  node-children-requires : node-lts.Need-children-requires node-calls node-at node.Post
+  node-children-requires c κs =
+      let a = c .before .before .before in
+      let s = a .before .before .before .before .before .before .before .before .before in
+      let same = sym (a .before .before .same .ensures) ∙ a .before .if1 .taken in (
+        omega (arith, s .pre .0, shorter-inside _ _ _ _ _ (s .pre .1) same),
+        lent-inside _ _ _ _ _ (s .pre .1) same _ (a .arity-of .ensures),
+      )
+
+  node-enum-known-found : node-lts.Need-enum-known-found node-calls node-at node.Post
+  node-enum-known-found c = search needs
+
+  node-enum-told : node-lts.Need-enum-told node-calls node-at node.Post
+  node-enum-told c = search needs
+
+  node-returns : node-lts.Need-returns node-calls node-at node.Post
+  node-returns c =
+      let a = c .before .before .before .before .before .before in
+      let s = a .before .before .before .before .before .before .before .before .before in
+      tells-miss _ _ _ _ _ _ _ _ _ (c .enum-told .given .1)
+      (misses-inside _ _ _ _ _ (s .pre .1) (sym (a .before .before .same .ensures) ∙ a .before .if1 .taken) _ (a .arity-of .ensures) _
+      (c .before .before .children .ensures .miss _ (c .enum-told .given .1)))
+
+  node-add-t22 : node-lts.Need-add-t22 node-calls node-at node.Post
+  node-add-t22 c = omega (arith, taken (inside-passes (c .before)) .0, c .before .before .before .before .before .before .before .before .before .before .before .before .before .before .before .before .good)
+
+  node-add-t26 : node-lts.Need-add-t26 node-calls node-at node.Post
+  node-add-t26 c = omega (arith, taken (inside-passes (c .before)) .1, c .before .before .before .before .before .before .before .before .before .before .before .before .before .before .before .before .good)
+
+  node-returns-2 : node-lts.Need-returns-2 node-calls node-at node.Post
+  node-returns-2 c = tells-past (inside-passes (c .before))
+
+  node-sub-at : node-lts.Need-sub-at node-calls node-at node.Post
+  node-sub-at c = let s = c .before .before .before .before .before .before .before .before in lent-within _ _ _ _ _ _ (s .pre .1)
+
+  node-leaf-of-requires : node-lts.Need-leaf-of-requires node-calls node-at node.Post
+  node-leaf-of-requires c κs = search needs
+
+  node-enum-told-2 : node-lts.Need-enum-told-2 node-calls node-at node.Post
+  node-enum-told-2 c = search needs
+
+  node-enum-told-3 : node-lts.Need-enum-told-3 node-calls node-at node.Post
+  node-enum-told-3 c = search needs
+
+  node-tree-length-requires : node-lts.Need-tree-length-requires node-calls node-at node.Post
+  node-tree-length-requires c κs = let s = c .before .before .before .before .before .before .before .before .before .before .before in omega (arith, lent-within _ _ _ _ _ _ (s .pre .1), s .pre .1 .most)
+
+  node-enum-known-kind : node-lts.Need-enum-known-kind node-calls node-at node.Post
+  node-enum-known-kind c = search needs
+
+  node-tree-length-requires-2 : node-lts.Need-tree-length-requires-2 node-calls node-at node.Post
+  node-tree-length-requires-2 c κs = let s = c .before .before .before .before .before .before .before .before .before .before .before .before in omega (arith, lent-within _ _ _ _ _ _ (s .pre .1), s .pre .1 .most)
+
+  node-add-meet : node-lts.Need-add-meet node-calls node-at node.Post
+  node-add-meet c =
+      let s = c .before .before .before .before .before .before .before .before .before .before .before .before .before in
+      omega (arith, meetable _ _ _ _ _ (s .pre .1) (sym (c .before .before .before .before .before .before .same .ensures) ∙ c .before .before .before .before .before .if1 .left) _ (c .tree-length2 .ensures) _ (sym (c .before .before .before .before .leaf-of .ensures) ∙ c .before .before .kind .given .1) .within, s .pre .1 .most)
+
+  node-meet-requires : node-lts.Need-meet-requires node-calls node-at node.Post
+  node-meet-requires c κs =
+      let s = c .before .before .before .before .before .before .before .before .before .before .before .before .before .before in
+      meetable _ _ _ _ _ (s .pre .1) (sym (c .before .before .before .before .before .before .before .same .ensures) ∙ c .before .before .before .before .before .before .if1 .left) _ (c .before .tree-length2 .ensures) _ (sym (c .before .before .before .before .before .leaf-of .ensures) ∙ c .before .before .before .kind .given .1)
+
+  node-enum-told-4 : node-lts.Need-enum-told-4 node-calls node-at node.Post
+  node-enum-told-4 c = search needs
+
+  node-enum-known-met : node-lts.Need-enum-known-met node-calls node-at node.Post
+  node-enum-known-met c = search needs
+
+  node-returns-3 : node-lts.Need-returns-3 node-calls node-at node.Post
+  node-returns-3 c =
+      let s = c .before .before .before .before .before .before .before .before .before .before .before in
+      tells-miss _ _ _ _ _ _ _ _ _ refl (misses-plain _ _ _ _ _ (s .pre .1) (sym (c .before .before .before .before .same .ensures) ∙ c .before .before .before .if1 .left) (sym (c .before .before .leaf-of .ensures) ∙ c .enum-told2 .given .1))
+
+  node-returns-4 : node-lts.Need-returns-4 node-calls node-at node.Post
+  node-returns-4 c =
+      let s = c .before .before .before .before .before .before .before .before .before .before .before .before in
+      tells-past (passes-blank _ _ _ _ _ (s .pre .1) (sym (c .before .before .before .before .before .same .ensures) ∙ c .before .before .before .before .if1 .left) _ (c .tree-length .ensures) (sym (c .before .before .before .leaf-of .ensures) ∙ c .before .enum-told3 .given .1))
+
+  node-returns-5 : node-lts.Need-returns-5 node-calls node-at node.Post
+  node-returns-5 c =
+      let m = c .before .before in
+      let s = m .before .before .before .before .before .before .before .before .before .before .before .before .before .before .before in
+      tells-past (passes-met _ _ _ _ _ (s .pre .1) (sym (m .before .before .before .before .before .before .before .before .same .ensures) ∙ m .before .before .before .before .before .before .before .if1 .left) _ (m .before .before .tree-length2 .ensures) _ (sym (m .before .before .before .before .before .before .leaf-of .ensures) ∙ m .before .before .before .before .kind .given .1) _ _ (m .meet .ensures) _ (c .enum-told4 .given .1))
+
+  node-returns-6 : node-lts.Need-returns-6 node-calls node-at node.Post
+  node-returns-6 c =
+      let m = c .before .before .before in
+      let s = m .before .before .before .before .before .before .before .before .before .before .before .before .before .before .before in
+      tells-miss _ _ _ _ _ _ _ _ _ refl (misses-met _ _ _ _ _ (s .pre .1) (sym (m .before .before .before .before .before .before .before .before .same .ensures) ∙ m .before .before .before .before .before .before .before .if1 .left) _ (m .before .before .tree-length2 .ensures) _ (sym (m .before .before .before .before .before .before .leaf-of .ensures) ∙ m .before .before .before .before .kind .given .1) _ _ (m .meet .ensures) _ (c .before .met .given .1))
+
+pub +children+node-spec : {M : Type 1} → statement M
++children+node-spec =
+    close μ-children μ-node
+    (λ t. children-lts.spec (children-calls t) (children-at t) children.Post
+    (children-returns t)
+    (children-node-requires t)
+    (children-enum-known-first t)
+    (children-enum-told t)
+    (children-returns-2 t)
+    (children-sub-children t)
+    (children-mul-children t)
+    (children-sub-children-2 t)
+    (children-part-children-start t)
+    (children-part-children-end t)
+    (children-mul-children-2 t)
+    (children-sub-children-3 t)
+    (children-part-children-start-2 t)
+    (children-part-children-end-2 t)
+    (children-children-requires t)
+    (children-enum-known-others t)
+    (children-enum-told-2 t)
+    (children-returns-3 t)
+    (children-add-t16 t)
+    (children-add-t23 t)
+    (children-returns-4 t))
+    (λ t. node-lts.spec (node-calls t) (node-at t) node.Post
+    (node-shared-slice-read-s t)
+    (node-shared-slice-read-same t)
+    (node-same-requires t)
+    (node-arity-of-requires t)
+    (node-sub-children t)
+    (node-part-children-start t)
+    (node-part-children-end t)
+    (node-sub-children-2 t)
+    (node-part-children-start-2 t)
+    (node-part-children-end-2 t)
+    (node-children-requires t)
+    (node-enum-known-found t)
+    (node-enum-told t)
+    (node-returns t)
+    (node-add-t22 t)
+    (node-add-t26 t)
+    (node-returns-2 t)
+    (node-sub-at t)
+    (node-leaf-of-requires t)
+    (node-enum-told-2 t)
+    (node-enum-told-3 t)
+    (node-tree-length-requires t)
+    (node-enum-known-kind t)
+    (node-tree-length-requires-2 t)
+    (node-add-meet t)
+    (node-meet-requires t)
+    (node-enum-told-4 t)
+    (node-enum-known-met t)
+    (node-returns-3 t)
+    (node-returns-4 t)
+    (node-returns-5 t)
+    (node-returns-6 t))

@@ -1,0 +1,359 @@
+-- Trying trees of the pattern one after the other: what is lent on, and how what each tells adds up.
+-- Assumes nothing.
+use Prim.Native.Nat.{ℕ, zero, suc, _+_, _-_, _≤_, _<_}
+use mathlib.Core.Path.{_≡_, sym, ap, ap₂, _∙_, subst, subst₂}
+use mathlib.Core.List.{List, [], _∷_}
+use mathlib.Core.Bool.{Bool, true, false}
+use native.Mathlib.Nat.{add-zero}
+use native.Mathlib.Omega.{arith}
+use borrow.Author.Tests.{eqb-true}
+use lib.Dec.{eqb}
+use lib.ListN.{length, getD, take, drop, set, length-drop, List·getD-eq-default}
+use lib.Seq.{getD-drop, drop-drop}
+use Rattle.rows.specs.Tree.{size}
+use Rattle.rows.specs.Parse.{first, parse, table}
+use Rattle.rows.specs.Row.{pick, symbol, allowed}
+use Rattle.rows.specs.declared.Leaves.the-variants.{Blanks}
+use Rattle.rows.proofs.Behind.{behind}
+use Rattle.rows.proofs.Entry.{entry-first}
+use Rattle.patterns.specs.Pattern.{leaf}
+use Rattle.patterns.specs.Walk.{sameSymbol, sameFront, agreeing, Outcome, Outcome.misses, Outcome.reaches, meets, steps, onward, walk, MarksIn, Answers}
+use Rattle.patterns.specs.declared.Leaf.the-variants.{Plain, Blank, Variable}
+use Rattle.patterns.specs.declared.Stepped.{Stepped}
+use Rattle.patterns.specs.declared.Stepped.the-variants.{To, Miss}
+use Rattle.patterns.proofs.Leaves.{Kind, kind}
+use Rattle.patterns.proofs.Marks.{marks-wider, marks-set}
+use Rattle.patterns.proofs.Steps.{answers, meets-first, meets-same, meets-other, steps-same, steps-plain, steps-blank, steps-variable}
+use Rattle.plain.specs.Plain.{starts, Spells, Lent, Passes, Tells, Meetable}
+use Rattle.plain.specs.declared.Tried.{Tried}
+use Rattle.plain.specs.declared.Tried.the-variants.{Past, Miss as Missed}
+use Rattle.plain.proofs.Spelling.{tail, tail-is, spells-some, spells-inside, spells-behind, first-within, first-some, first-more, first-over}
+
+-- what is lent
+module _ (A q l u ms : List ℕ) (k : ℕ) (h : Lent A q l u ms k) where
+  pub lent-within : length u ≤ length l
+  lent-within = omega (arith, ap length (h .end), length-drop (starts l u) l)
+
+  -- a shorter end starts further on
+  starts-on : (n : ℕ) → n ≤ length u → starts l (drop n u) ≡ starts l u + n
+  starts-on n m = omega (arith, length-drop n u, lent-within)
+
+  end-on : (n : ℕ) → n ≤ length u → drop n u ≡ drop (starts l (drop n u)) l
+  end-on n m =
+      ap (drop n) (h .end) ∙ drop-drop n (starts l u) l ∙ ap (λ (i : ℕ). drop i l) (sym (starts-on n m))
+
+  module _ (more : 0 < k) where
+    pub pattern-some : 0 < length q
+    pattern-some = spells-some A (allowed Blanks A) k q more (h .pattern)
+
+    pub rest-some : 0 < length u
+    rest-some = spells-some A (symbol A) k u more (h .row)
+
+    -- the first symbol of the end, and where its tree ends, by the part's places
+    place : getD l (starts l u) 0 ≡ getD u 0 0
+    place =
+        sym (ap (λ (v : List ℕ). getD v 0 0) (h .end)
+        ∙ getD-drop (starts l u) l 0 0
+        ∙ ap (λ (n : ℕ). getD l n 0) (add-zero (starts l u)))
+
+    end-of-tree : getD (table A l) (starts l u) 0 ≡ starts l u + size (first 1 (parse A u))
+    unfolding behind
+    end-of-tree =
+        entry-first A l (starts l u) (omega (arith, rest-some, lent-within))
+        ∙ ap (λ (v : List ℕ). starts l u + size (first 1 (parse A v))) (sym (h .end))
+
+-- what is told, by the answer
+module _ {A q l u ms : List ℕ} {k : ℕ} {ms′ : List ℕ} where
+  pub tells-past : {p n : ℕ} → Passes A q l u ms k p n ms′ → Tells A q l u ms k (Past p n) ms′
+  tells-past {p} {n} h =
+      record {
+        past = λ i j e.
+            (let a : p ≡ i = cc in let b : n ≡ j = cc in subst₂ (λ (x y : ℕ). Passes A q l u ms k x y ms′) a b h);
+        miss = λ x e. (let z : _≡_ {A = ℕ} 0 1 = cc in absurd (omega arith));
+      }
+
+pub tells-miss : (A q l u ms : List ℕ) (k : ℕ) (r : Tried) (ms′ : List ℕ) (x : ℕ) → r ≡ Missed x → walk l (table A l) q (starts l u) ms ≡ misses x → Tells A q l u ms k r ms′
+tells-miss A q l u ms k r ms′ x m h =
+    record {
+      past = λ i j e. (let z : _≡_ {A = ℕ} 0 1 = cc in absurd (omega arith));
+      miss = λ y e. (let a : x ≡ y = cc in h ∙ ap misses a);
+    }
+
+-- trees take no more than there is
+pub taken : {A q l u ms : List ℕ} {k p n : ℕ} {ms′ : List ℕ} → Passes A q l u ms k p n ms′ → (p ≤ length q) × (n ≤ length u)
+taken {A} {q} {l} {u} {ms} {k} c =
+    (omega (arith, c .numbers, first-within A k q), omega (arith, c .symbols, first-within A k u))
+
+-- one number of the pattern
+walk-on : (w e q : List ℕ) (j : ℕ) (ms : List ℕ) (o : Outcome) → 0 < length q → steps w e (getD q 0 0) j ms ≡ o
+    → walk w e q j ms ≡ onward o (λ j′ ms′. walk w e (drop 1 q) j′ ms′)
+unfolding walk
+walk-on w e [] j ms o h z = absurd (omega arith)
+walk-on w e (s ∷ q) j ms o h z = ap (λ (o : Outcome). onward o (λ j′ ms′. walk w e q j′ ms′)) z
+
+first-inside : (A l : List ℕ) → 0 < length l → size (first 1 (parse A l)) ≡ size (first (getD A (getD l 0 0) 0) (parse A (drop 1 l))) + 1
+first-inside A [] h = absurd (omega arith)
+first-inside A (s ∷ l) h = first-over A s l
+
+inside : (A : List ℕ) (ok : ℕ → Bool) (k : ℕ) (l : List ℕ) → 0 < length l → Spells A ok k l → Spells A ok (getD A (getD l 0 0) 0) (drop 1 l)
+inside A ok k [] h s = absurd (omega arith)
+inside A ok k (x ∷ l) h s = spells-inside A ok k x l s
+
+-- S and a variable have no children
+first-leaf : (A l : List ℕ) → length A ≤ 1024 → 0 < length l → 65280 ≤ getD l 0 0 → _≡_ {A = ℕ} 1 (size (first 1 (parse A l)))
+unfolding first size
+first-leaf A l few some h =
+    let none : getD A (getD l 0 0) 0 ≡ 0 = List·getD-eq-default A 0 (omega arith) in
+    omega (arith, first-inside A l some, ap (λ (k : ℕ). size (first k (parse A (drop 1 l)))) none)
+
+-- a variable at a tree that stands up to `end`
+module _ (w e : List ℕ) (j end : ℕ) (y : getD e j 0 ≡ end) (ms : List ℕ) (i : ℕ) where
+  -- what is told of a place, for the end that the table has
+  abbrev Met : (ℕ → Stepped) → List ℕ → Type 0
+  Met r ms′ = Answers (meets w e j ms i (getD ms i 0)) ms (r end) ms′
+
+  pub met-first : getD ms i 0 ≡ 0 → Met To (set ms i (j + 1))
+  met-first z =
+      subst (λ (n : ℕ). Answers (meets w e j ms i (getD ms i 0)) ms (To n) (set ms i (j + 1))) y
+      (answers _ (reaches (getD e j 0) (set ms i (j + 1))) ms (meets-first w e j ms i z))
+
+  module _ (later : getD ms i 0 ≡ 0 → ⊥) (n : ℕ) (z : n ≡ sameFront (take (end - j) (drop (getD ms i 0 - 1) w)) (take (end - j) (drop j w))) where
+    agrees : n ≡ agreeing w e (getD ms i 0 - 1) j
+    agrees = z ∙ ap (λ (x : ℕ). sameFront (take (x - j) (drop (getD ms i 0 - 1) w)) (take (x - j) (drop j w))) (sym y)
+
+    pub met-same : n ≡ end - j → Met To ms
+    met-same t =
+        subst (λ (x : ℕ). Answers (meets w e j ms i (getD ms i 0)) ms (To x) ms) y
+        (answers _ (reaches (getD e j 0) ms) ms (meets-same w e j ms i later n agrees (t ∙ ap (λ (x : ℕ). x - j) (sym y))))
+
+    pub met-other : (n ≡ end - j → ⊥) → Met (λ x. Miss (j + n)) ms
+    met-other t = answers _ (misses (j + n)) ms (meets-other w e j ms i later n agrees (λ d. t (d ∙ ap (λ (x : ℕ). x - j) y)))
+
+-- what an answer says of the outcome
+answer-to : (o : Outcome) (ms : List ℕ) (n : ℕ) (ms′ : List ℕ) → Answers o ms (To n) ms′ → o ≡ reaches n ms′
+answer-to (misses x) ms n ms′ a = let e = a .answer in let z : _≡_ {A = ℕ} 0 1 = cc in absurd (omega arith)
+answer-to (reaches x v) ms n ms′ a = let e = a .answer in let z : x ≡ n = cc in ap₂ reaches z (sym (a .marks))
+
+answer-miss : (o : Outcome) (ms : List ℕ) (n : ℕ) (ms′ : List ℕ) → Answers o ms (Miss n) ms′ → o ≡ misses n
+answer-miss (misses x) ms n ms′ a = let e = a .answer in let z : x ≡ n = cc in ap misses z
+answer-miss (reaches x v) ms n ms′ a = let e = a .answer in let z : _≡_ {A = ℕ} 0 1 = cc in absurd (omega arith)
+
+-- a variable marks its first place
+marks-met : (w e : List ℕ) (j : ℕ) (ms : List ℕ) (i m n : ℕ) (ms′ : List ℕ) → MarksIn j ms → j < n → meets w e j ms i m ≡ reaches n ms′ → MarksIn n ms′
+unfolding meets
+marks-met w e j ms i zero n ms′ h b z =
+    let same : set ms i (j + 1) ≡ ms′ = cc in
+    subst (MarksIn n) same (marks-set n j ms i b h)
+marks-met w e j ms i (suc a) n ms′ h b z = go (eqb (agreeing w e a j) (getD e j 0 - j)) z
+  where
+    go : (c : Bool) → pick c (reaches (getD e j 0) ms) (misses (j + agreeing w e a j)) ≡ reaches n ms′ → MarksIn n ms′
+    go true z = let same : ms ≡ ms′ = cc in subst (MarksIn n) same (marks-wider j n ms (omega arith) h)
+    go false z = let x : _≡_ {A = ℕ} 0 1 = cc in absurd (omega arith)
+
+-- and takes the tree that stands there
+end-met : (w e : List ℕ) (j : ℕ) (ms : List ℕ) (i m n : ℕ) (ms′ : List ℕ) → meets w e j ms i m ≡ reaches n ms′ → n ≡ getD e j 0
+unfolding meets
+end-met w e j ms i zero n ms′ z = cc
+end-met w e j ms i (suc a) n ms′ z = go (eqb (agreeing w e a j) (getD e j 0 - j)) z
+  where
+    go : (c : Bool) → pick c (reaches (getD e j 0) ms) (misses (j + agreeing w e a j)) ≡ reaches n ms′ → n ≡ getD e j 0
+    go true z = cc
+    go false z = let x : _≡_ {A = ℕ} 0 1 = cc in absurd (omega arith)
+
+-- the first tree of the pattern at the first tree of the end
+module _ (A q l u ms : List ℕ) (h : Lent A q l u ms 1) where
+  abbrev e : List ℕ
+  e = table A l
+
+  abbrev j : ℕ
+  j = starts l u
+
+  some-pattern : 0 < length q
+  some-pattern = pattern-some A q l u ms 1 h (omega arith)
+
+  some-rest : 0 < length u
+  some-rest = rest-some A q l u ms 1 h (omega arith)
+
+  step-on : (o : Outcome) → steps l e (getD q 0 0) j ms ≡ o → walk l e q j ms ≡ onward o (λ j′ ms′. walk l e (drop 1 q) j′ ms′)
+  step-on o z = walk-on l e q j ms o some-pattern z
+
+  here : getD l j 0 ≡ getD u 0 0
+  here = place A q l u ms 1 h (omega arith)
+
+  -- the symbols are the same: the children are tried
+  module _ (same : sameSymbol (getD u 0 0) (getD q 0 0) ≡ true) where
+    alike : getD u 0 0 ≡ getD q 0 0
+    alike = eqb-true (getD u 0 0) (getD q 0 0) same
+
+    -- what is left of the pattern is shorter
+    pub shorter-inside : length (tail q 1) < length q
+    shorter-inside = omega (arith, ap length (tail-is q 1), length-drop 1 q, some-pattern)
+
+    module _ (a : ℕ) (arity : a ≡ getD A (getD q 0 0) 0) where
+      starts-inside : starts l (tail u 1) ≡ j + 1
+      starts-inside = ap (starts l) (tail-is u 1) ∙ starts-on A q l u ms 1 h 1 (omega (arith, some-rest))
+
+      pub lent-inside : Lent A (tail q 1) l (tail u 1) ms a
+      lent-inside =
+          record {
+            few = h .few;
+            most = h .most;
+            end = subst (λ (v : List ℕ). v ≡ drop (starts l v) l) (sym (tail-is u 1)) (end-on A q l u ms 1 h 1 (omega (arith, some-rest)));
+            pattern = subst₂ (Spells A (allowed Blanks A)) (sym arity) (sym (tail-is q 1)) (inside A (allowed Blanks A) 1 q some-pattern (h .pattern));
+            row =
+                subst₂ (Spells A (symbol A)) (ap (λ (s : ℕ). getD A s 0) alike ∙ sym arity) (sym (tail-is u 1))
+                (inside A (symbol A) 1 u some-rest (h .row));
+            marks = subst (λ (n : ℕ). MarksIn n ms) (sym starts-inside) (marks-wider j (j + 1) ms (omega arith) (h .marks));
+          }
+
+      walk-inside : walk l e q j ms ≡ walk l e (tail q 1) (starts l (tail u 1)) ms
+      walk-inside =
+          step-on (reaches (j + 1) ms) (steps-same l e (getD q 0 0) j ms (ap (λ (s : ℕ). sameSymbol s (getD q 0 0)) here ∙ same))
+          ∙ ap₂ (λ (v : List ℕ) (n : ℕ). walk l e v n ms) (sym (tail-is q 1)) (sym starts-inside)
+
+      pub passes-inside : (p n : ℕ) (ms′ : List ℕ) → Passes A (tail q 1) l (tail u 1) ms a p n ms′ → Passes A q l u ms 1 (p + 1) (n + 1) ms′
+      passes-inside p n ms′ c =
+          let far : starts l (tail u 1) + n ≡ j + (n + 1) = omega (arith, starts-inside) in
+          let up : 1 + p ≡ p + 1 = omega arith in
+          let inner : ℕ → List ℕ → ℕ = λ k v. size (first k (parse A v)) + 1 in
+          let numbers : size (first 1 (parse A q)) ≡ size (first a (parse A (tail q 1))) + 1 =
+          first-inside A q some-pattern ∙ ap₂ inner (sym arity) (sym (tail-is q 1)) in
+          let symbols : size (first 1 (parse A u)) ≡ size (first a (parse A (tail u 1))) + 1 =
+          first-inside A u some-rest ∙ ap₂ inner (ap (λ (s : ℕ). getD A s 0) alike ∙ sym arity) (sym (tail-is u 1)) in
+          record {
+            numbers = omega (arith, c .numbers);
+            symbols = omega (arith, c .symbols);
+            marks = subst (λ (i : ℕ). MarksIn i ms′) far (c .marks);
+            walks =
+                walk-inside
+                ∙ c .walks
+                ∙ ap₂ (λ (v : List ℕ) (i : ℕ). walk l e v i ms′) (ap (drop p) (tail-is q 1) ∙ drop-drop p 1 q ∙ ap (λ (i : ℕ). drop i q) up) far;
+          }
+
+      pub misses-inside : (x : ℕ) → walk l e (tail q 1) (starts l (tail u 1)) ms ≡ misses x → walk l e q j ms ≡ misses x
+      misses-inside x z = walk-inside ∙ z
+
+  -- they differ: S and a variable take the whole tree
+  module _ (other : sameSymbol (getD u 0 0) (getD q 0 0) ≡ false) where
+    differs : sameSymbol (getD l j 0) (getD q 0 0) ≡ false
+    differs = ap (λ (s : ℕ). sameSymbol s (getD q 0 0)) here ∙ other
+
+    pub misses-plain : leaf (getD q 0 0) ≡ Plain → walk l e q j ms ≡ misses j
+    misses-plain k = step-on (misses j) (steps-plain l e (getD q 0 0) j ms differs k)
+
+    module _ (n : ℕ) (long : n ≡ size (first 1 (parse A u))) where
+      end-is : getD e j 0 ≡ j + n
+      end-is = end-of-tree A q l u ms 1 h (omega arith) ∙ ap (λ (i : ℕ). j + i) (sym long)
+
+      passes-leaf : (ms′ : List ℕ) → 65280 ≤ getD q 0 0 → MarksIn (j + n) ms′ → steps l e (getD q 0 0) j ms ≡ reaches (j + n) ms′ → Passes A q l u ms 1 1 n ms′
+      passes-leaf ms′ b m z =
+          record { numbers = first-leaf A q (h .few) some-pattern b; symbols = long; marks = m; walks = step-on (reaches (j + n) ms′) z }
+
+      pub passes-blank : leaf (getD q 0 0) ≡ Blank → Passes A q l u ms 1 1 n ms
+      passes-blank k =
+          passes-leaf ms (subst (Kind (getD q 0 0)) k (kind (getD q 0 0))) (marks-wider j (j + n) ms (omega arith) (h .marks))
+          (steps-blank l e (getD q 0 0) j ms differs k ∙ ap (λ (i : ℕ). reaches i ms) end-is)
+
+      module _ (i : ℕ) (k : leaf (getD q 0 0) ≡ Variable i) where
+        small : (65280 ≤ getD q 0 0) × (i < 16)
+        small = subst (Kind (getD q 0 0)) k (kind (getD q 0 0))
+
+        some : 0 < n
+        some = omega (arith, long, first-some A (symbol A) 1 u (omega arith) (h .row))
+
+        pub meetable : Meetable l i j (j + n) ms
+        meetable =
+            record {
+              most = h .most;
+              variable = small .1;
+              past = omega (arith, some);
+              within = omega (arith, long, first-within A 1 u, lent-within A q l u ms 1 h);
+              marks = h .marks;
+            }
+
+        steps-met : steps l e (getD q 0 0) j ms ≡ meets l e j ms i (getD ms i 0)
+        steps-met = steps-variable l e (getD q 0 0) j ms differs i k
+
+        -- what the variable's place tells
+        module _ (r : Stepped) (ms′ : List ℕ)
+            (a : (t : List ℕ) → getD t j 0 ≡ j + n → Answers (meets l t j ms i (getD ms i 0)) ms r ms′) (x : ℕ) where
+          pub passes-met : r ≡ To x → Passes A q l u ms 1 1 n ms′
+          passes-met y =
+              let o : Outcome = meets l e j ms i (getD ms i 0) in
+              let came : o ≡ reaches x ms′ = answer-to o ms x ms′ (subst (λ (v : Stepped). Answers o ms v ms′) y (a e end-is)) in
+              let far : x ≡ j + n = end-met l e j ms i (getD ms i 0) x ms′ came ∙ end-is in
+              let z : o ≡ reaches (j + n) ms′ = came ∙ ap (λ (i : ℕ). reaches i ms′) far in
+              passes-leaf ms′ (small .0) (marks-met l e j ms i (getD ms i 0) (j + n) ms′ (h .marks) (omega (arith, some)) z) (steps-met ∙ z)
+
+          pub misses-met : r ≡ Miss x → walk l e q j ms ≡ misses x
+          misses-met y =
+              let o : Outcome = meets l e j ms i (getD ms i 0) in
+              step-on (misses x) (steps-met ∙ answer-miss o ms x ms′ (subst (λ (v : Stepped). Answers o ms v ms′) y (a e end-is)))
+
+-- one tree, then the others
+module _ (A q l u ms : List ℕ) (k : ℕ) (h : Lent A q l u ms k) (more : 0 < k) where
+  pub lent-first : Lent A q l u ms 1
+  lent-first =
+      record {
+        few = h .few;
+        most = h .most;
+        end = h .end;
+        pattern = record { ranked = h .pattern .ranked; many = omega (arith, h .pattern .many) };
+        row = record { ranked = h .row .ranked; many = omega (arith, h .row .many) };
+        marks = h .marks;
+      }
+
+  module _ (p n : ℕ) (ms′ : List ℕ) (c : Passes A q l u ms 1 p n ms′) where
+    -- the first takes some of the pattern
+    some-taken : 0 < p
+    some-taken = omega (arith, c .numbers, first-some A (allowed Blanks A) k q more (h .pattern))
+
+    -- what is left of the pattern is shorter
+    pub shorter-others : length (tail q p) < length q
+    shorter-others = omega (arith, ap length (tail-is q p), length-drop p q, some-taken, taken c .0)
+
+    starts-others : starts l (tail u n) ≡ starts l u + n
+    starts-others = ap (starts l) (tail-is u n) ∙ starts-on A q l u ms k h n (taken c .1)
+
+    pub lent-others : Lent A (tail q p) l (tail u n) ms′ (k - 1)
+    lent-others =
+        record {
+          few = h .few;
+          most = h .most;
+          end = subst (λ (v : List ℕ). v ≡ drop (starts l v) l) (sym (tail-is u n)) (end-on A q l u ms k h n (taken c .1));
+          pattern =
+              subst (Spells A (allowed Blanks A) (k - 1)) (sym (tail-is q p)) (spells-behind A (allowed Blanks A) k p q more (h .pattern) (c .numbers));
+          row = subst (Spells A (symbol A) (k - 1)) (sym (tail-is u n)) (spells-behind A (symbol A) k n u more (h .row) (c .symbols));
+          marks = subst (λ (i : ℕ). MarksIn i ms′) (sym starts-others) (c .marks);
+        }
+
+    walk-others : walk l (table A l) q (starts l u) ms ≡ walk l (table A l) (tail q p) (starts l (tail u n)) ms′
+    walk-others = c .walks ∙ ap₂ (λ (v : List ℕ) (i : ℕ). walk l (table A l) v i ms′) (sym (tail-is q p)) (sym starts-others)
+
+    pub passes-others : (p′ n′ : ℕ) (ms″ : List ℕ) → Passes A (tail q p) l (tail u n) ms′ (k - 1) p′ n′ ms″ → Passes A q l u ms k (p + p′) (n + n′) ms″
+    passes-others p′ n′ ms″ d =
+        let far : starts l (tail u n) + n′ ≡ starts l u + (n + n′) = omega (arith, starts-others) in
+        record {
+          numbers =
+              first-more A (allowed Blanks A) k p q more (h .pattern) (c .numbers) p′
+              (d .numbers ∙ ap (λ (v : List ℕ). size (first (k - 1) (parse A v))) (tail-is q p));
+          symbols =
+              first-more A (symbol A) k n u more (h .row) (c .symbols) n′
+              (d .symbols ∙ ap (λ (v : List ℕ). size (first (k - 1) (parse A v))) (tail-is u n));
+          marks = subst (λ (i : ℕ). MarksIn i ms″) far (d .marks);
+          walks = walk-others ∙ d .walks ∙ ap₂ (λ (v : List ℕ) (i : ℕ). walk l (table A l) v i ms″) (ap (drop p′) (tail-is q p) ∙ drop-drop p′ p q) far;
+        }
+
+    pub misses-others : (x : ℕ) → walk l (table A l) (tail q p) (starts l (tail u n)) ms′ ≡ misses x → walk l (table A l) q (starts l u) ms ≡ misses x
+    misses-others x z = walk-others ∙ z
+
+-- no trees
+pub passes-none : (A q l u ms : List ℕ) (k : ℕ) → k ≡ 0 → Lent A q l u ms k → Passes A q l u ms k 0 0 ms
+unfolding first size
+passes-none A q l u ms k e h =
+    record {
+      numbers = sym (ap (λ (i : ℕ). size (first i (parse A q))) e);
+      symbols = sym (ap (λ (i : ℕ). size (first i (parse A u))) e);
+      marks = subst (λ (i : ℕ). MarksIn i ms) (sym (add-zero (starts l u))) (h .marks);
+      walks = ap (λ (i : ℕ). walk l (table A l) q i ms) (sym (add-zero (starts l u)));
+    }

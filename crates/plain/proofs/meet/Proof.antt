@@ -1,0 +1,86 @@
+-- `plain::meet` meets its contract: a first place is marked, a later one is compared with the first.
+-- Assumes nothing.
+use Prim.Native.Nat.{_-_}
+use native.Mathlib.Omega.{arith}
+use lib.ListN.{getD, take, drop}
+use Rattle.patterns.proofs.Fronts.{front-most}
+use Rattle.plain.proofs.Trying.{met-first, met-same, met-other}
+use borrow.Author.Needs.{needs}
+use Rattle.plain.proofs.meet.Statement.{statement}
+use Rattle.plain.proofs.meet.Tie as tie
+
+mul-m : tie.Need-mul-m
+mul-m c = search needs
+
+element-copy-out-m : tie.Need-element-copy-out-m
+element-copy-out-m c = search needs
+
+cast-m : tie.Need-cast-m
+cast-m c = let s = c .before .before in omega (arith, s .pre .marks .all (s .args .i))
+
+add-marks : tie.Need-add-marks
+add-marks c = search needs
+
+cast-marks : tie.Need-cast-marks
+cast-marks c = search needs
+
+mul-marks : tie.Need-mul-marks
+mul-marks c = search needs
+
+element-write-marks : tie.Need-element-write-marks
+element-write-marks c = search needs
+
+returns : tie.Need-returns
+returns c =
+    let g = c .before .before .before .args in
+    λ e y. met-first (g .part .now) e (g .j) (g .end) y (g .marks .now) (g .i) (c .if1 .taken)
+
+sub-n : tie.Need-sub-n
+sub-n c = search needs
+
+sub-count-same : tie.Need-sub-count-same
+sub-count-same c = search needs
+
+count-same-requires : tie.Need-count-same-requires
+count-same-requires c κs =
+    let s = c .before .before .before in
+    omega (arith, s .pre .marks .all (s .args .i))
+
+returns-2 : tie.Need-returns-2
+returns-2 c =
+    let g = c .before .before .before .before .before .args in
+    λ e y. met-same (g .part .now) e (g .j) (g .end) y (g .marks .now) (g .i) (c .before .before .if1 .left) _ (c .before .count-same .ensures) (c .if2 .taken)
+
+add-t9 : tie.Need-add-t9
+add-t9 c =
+    let s = c .before .before .before .before .before in
+    let g = s .args in
+    omega (
+      arith,
+      c .before .count-same .ensures,
+      front-most (g .end - g .j) (drop (getD (g .marks .now) (g .i) 0 - 1) (g .part .now)) (take (g .end - g .j) (drop (g .j) (g .part .now))),
+    )
+
+returns-3 : tie.Need-returns-3
+returns-3 c =
+    let g = c .before .before .before .before .before .args in
+    λ e y. met-other (g .part .now) e (g .j) (g .end) y (g .marks .now) (g .i) (c .before .before .if1 .left) _ (c .before .count-same .ensures) (c .if2 .left)
+
+pub meet-spec : {M : Type 1} → statement M
+meet-spec =
+    tie.close
+    (tie.spec
+    mul-m
+    element-copy-out-m
+    cast-m
+    add-marks
+    cast-marks
+    mul-marks
+    element-write-marks
+    returns
+    sub-n
+    sub-count-same
+    count-same-requires
+    returns-2
+    add-t9
+    returns-3)

@@ -1,0 +1,115 @@
+// The plain matcher: yes or no, without a table. A node asks about its row of children, and the row of children asks about
+// each node, on a shorter and shorter part of the row.
+ghost use mathlib.Core.Path.{_≡_};
+ghost use mathlib.Core.Bool.{true};
+ghost use mathlib.Core.List.{List};
+ghost use mathlib.Core.Logic.{_↔_};
+ghost use Prim.Native.Nat.{ℕ};
+ghost use lib.ListN.{getD};
+ghost use Rattle.rows.specs.Parse.{treeOf};
+ghost use Rattle.patterns.specs.Pattern.{Matches};
+ghost use Rattle.patterns.specs.Walk.{meets, Answers};
+ghost use Rattle.plain.specs.Plain.{Meetable, Lent, Tells, Tryable};
+use patterns::Leaf;
+use patterns::Stepped;
+
+// What trees of the pattern find in the row: how many numbers of the pattern and how many symbols of the row they take; or
+// the place of the part where they do not fit.
+pub enum Tried {
+    Past(usize, usize),
+    Miss(usize),
+}
+
+// Variable i at place j of the part, where a tree stands up to `end`. At its first place it is marked; at a later one the
+// tree of the first stands again.
+fn meet(part: &[u16], i: usize, j: usize, end: usize, marks: &mut [u16; 16]) -> Stepped
+    requires { ⌜ Meetable (now part) i j end (now marks) ⌝ }
+    ensures { λ r. ⌜ ((e : List ℕ) → getD e j 0 ≡ end → Answers (meets (now (part .entry)) e j (now (marks .entry)) i (getD (now (marks .entry)) i 0)) (now (marks .entry)) r (now (marks .exit))) ⌝ }
+{
+    let m = marks[i] as usize;
+    if m == 0 {
+        marks[i] = (j + 1) as u16;
+        return Stepped::To(end);
+    }
+    let n = end - j;
+    let equal = patterns::count_same(part, m - 1, j, n);
+    if equal == n {
+        return Stepped::To(end);
+    }
+    Stepped::Miss(j + equal)
+}
+
+// The first tree of the pattern at the first tree of `rest`, which is the end of the part.
+fn node(
+    arities: &[u16],
+    pattern: &[u16],
+    part: &[u16],
+    rest: &[u16],
+    marks: &mut [u16; 16],
+) -> Tried
+    requires { ⌜ Lent (now arities) (now pattern) (now part) (now rest) (now marks) 1 ⌝ }
+    ensures { λ r. ⌜ Tells (now (arities .entry)) (now (pattern .entry)) (now (part .entry)) (now (rest .entry)) (now (marks .entry)) 1 r (now (marks .exit)) ⌝ }
+{
+    let s = pattern[0];
+    if patterns::same(rest[0], s) {
+        let a = rows::arity_of(arities, s);
+        let found = children(arities, a, &pattern[1..], part, &rest[1..], marks);
+        let Tried::Past(p, r) = found else {
+            return found;
+        };
+        return Tried::Past(p + 1, r + 1);
+    }
+    let at = part.len() - rest.len();
+    let kind = patterns::leaf_of(s);
+    match kind {
+        Leaf::Plain => Tried::Miss(at),
+        Leaf::Blank => Tried::Past(1, tables::tree_length(arities, rest)),
+        Leaf::Variable(i) => {
+            let n = tables::tree_length(arities, rest);
+            let met = meet(part, i, at, at + n, marks);
+            match met {
+                Stepped::To(_) => Tried::Past(1, n),
+                Stepped::Miss(x) => Tried::Miss(x),
+            }
+        }
+    }
+}
+
+// The first k trees of the pattern at the first k trees of `rest`.
+fn children(
+    arities: &[u16],
+    k: u16,
+    pattern: &[u16],
+    part: &[u16],
+    rest: &[u16],
+    marks: &mut [u16; 16],
+) -> Tried
+    requires { ⌜ Lent (now arities) (now pattern) (now part) (now rest) (now marks) k ⌝ }
+    ensures { λ r. ⌜ Tells (now (arities .entry)) (now (pattern .entry)) (now (part .entry)) (now (rest .entry)) (now (marks .entry)) k r (now (marks .exit)) ⌝ }
+{
+    if k == 0 {
+        return Tried::Past(0, 0);
+    }
+    let first = node(arities, pattern, part, rest, marks);
+    let Tried::Past(p, r) = first else {
+        return first;
+    };
+    let others = children(arities, k - 1, &pattern[p..], part, &rest[r..], marks);
+    let Tried::Past(more, further) = others else {
+        return others;
+    };
+    Tried::Past(p + more, r + further)
+}
+
+// Does the pattern match the first tree of the part?
+pub fn fits(arities: &[u16], part: &[u16], pattern: &[u16]) -> bool
+    requires { ⌜ Tryable (now arities) (now part) (now pattern) ⌝ }
+    ensures { λ r. ⌜ (r ≡ true) ↔ Matches (treeOf (now (arities .entry)) (now (pattern .entry))) (treeOf (now (arities .entry)) (now (part .entry))) ⌝ }
+{
+    let mut marks = [0u16; 16];
+    let tried = node(arities, pattern, part, part, &mut marks);
+    match tried {
+        Tried::Past(_, _) => true,
+        Tried::Miss(_) => false,
+    }
+}
