@@ -25,7 +25,7 @@ use Rattle.patterns.proofs.Fits.{Fits, fits-matches, matches-fits}
 use Rattle.patterns.proofs.Marks.{unmarked-zero, marks-none}
 use Rattle.patterns.proofs.Walks.{Agrees, complete, sound}
 
-both-whole : (a b : Verdict) → orElse a b ≡ Whole → (a ≡ Whole) × (b ≡ Whole)
+pub both-whole : (a b : Verdict) → orElse a b ≡ Whole → (a ≡ Whole) × (b ≡ Whole)
 both-whole Whole b e = (refl, e)
 both-whole (Faulty f) b e = let z : _≡_ {A = ℕ} 0 1 = cc in absurd (omega arith)
 

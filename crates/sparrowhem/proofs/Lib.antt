@@ -1,4 +1,10 @@
 pub mod Building
 pub mod Handing
+pub mod Preferring
 pub mod Replacing
 pub mod Searching
+pub mod Trying
+pub mod Holding
+pub mod Spanning
+pub mod EditPromises
+pub mod Promises

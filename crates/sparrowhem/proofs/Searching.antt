@@ -39,7 +39,7 @@ pub written-behind : (b v : List ℕ) → drop (length v) (written b 0 v) ≡ dr
 unfolding written
 written-behind b v = drop-at v (drop (0 + length v) b) (length v) refl ∙ ap (λ (n : ℕ). drop n b) (zero-add (length v))
 
-few : (n : ℕ) → alphabetSize n ≡ Fine → n ≤ 1024
+pub few : (n : ℕ) → alphabetSize n ≡ Fine → n ≤ 1024
 unfolding alphabetSize
 few n e = go (ltb n 1) (ltb 1024 n) refl e
   where
@@ -48,7 +48,7 @@ few n e = go (ltb n 1) (ltb 1024 n) refl e
     go false true q e = let z : _≡_ {A = ℕ} 0 1 = cc in absurd (omega arith)
     go false false q e = ltb-false 1024 n q
 
-pattern-fine : (v : Verdict) → asPattern v ≡ Fine → v ≡ Whole
+pub pattern-fine : (v : Verdict) → asPattern v ≡ Fine → v ≡ Whole
 pattern-fine Whole e = refl
 pattern-fine (Faulty f) e = let z : _≡_ {A = ℕ} 0 1 = cc in absurd (omega arith)
 

@@ -1,13 +1,19 @@
 -- What is handed back as a part of a lent row.
-use Prim.Native.Nat.{ℕ}
+use Prim.Native.Nat.{ℕ, _<_}
+use mathlib.Core.Path.{_≡_}
 use mathlib.Core.List.{List, []}
 use lib.ListN.{length, getD}
 use Rattle.rows.specs.Tree.{single, prefix, subtreeAt}
 use Rattle.rows.specs.Parse.{parse, table}
 use Rattle.rows.specs.Buffers.{after}
-use Rattle.rows.specs.Refusals.{_then_, given, position}
+use Rattle.rows.specs.Refusals.{_then_, given, kept, pattern, position}
+use Rattle.rows.specs.declared.Refusal.{Refusal}
+use Rattle.rows.specs.declared.Refusal.the-variants.{AlphabetSize, ArityOver, NoLeaf, Row, BufferShort, Stale, OnRecord, OnRecordShort, OnRecordStale, Pattern, Replacement, Position, TooLong, OutputShort, Line, InputLong}
 use Rattle.rows.specs.declared.Check.{Check}
 use Rattle.rows.specs.declared.Check.the-variants.{Fine, Refused}
+use Rattle.patterns.specs.Answers.{MatchesAt}
+use Rattle.sparrowhem.specs.declared.parts.Newest.{Newest}
+use Rattle.sparrowhem.specs.declared.parts.Newest.the-variants.{Corrected, OnRecord as OnRecordAt, Nowhere, Refused as NewestRefused}
 use Rattle.sparrowhem.specs.declared.parts.Placed.{Placed}
 use Rattle.sparrowhem.specs.declared.parts.Placed.the-variants.{Span, Unplaced}
 
@@ -26,3 +32,60 @@ placed (Refused r) b e = Unplaced r
 
 unfoldable pub subtreeAnswer : List ℕ → List ℕ → List ℕ → ℕ → Placed
 subtreeAnswer A w t p = placed (subtreeCheck A w t p) p (getD (table A w) p 0)
+
+-- NEWER OR OLDER. A refusal of a row with its table, 4 to 10, as that of the row on record, 44 to 50; any other stays.
+abbrev pub onRecord : Refusal → Refusal
+onRecord (Row f) = OnRecord f
+onRecord (BufferShort n) = OnRecordShort n
+onRecord (Stale p) = OnRecordStale p
+onRecord (AlphabetSize n) = AlphabetSize n
+onRecord (ArityOver s) = ArityOver s
+onRecord NoLeaf = NoLeaf
+onRecord (OnRecord f) = OnRecord f
+onRecord (OnRecordShort n) = OnRecordShort n
+onRecord (OnRecordStale p) = OnRecordStale p
+onRecord (Pattern f) = Pattern f
+onRecord (Replacement f) = Replacement f
+onRecord (Position p) = Position p
+onRecord (TooLong n) = TooLong n
+onRecord (OutputShort n) = OutputShort n
+onRecord (Line k) = Line k
+onRecord InputLong = InputLong
+
+abbrev pub ofRecord : Check → Check
+ofRecord Fine = Fine
+ofRecord (Refused r) = Refused (onRecord r)
+
+-- refusals 1 to 3, 4 to 10 of the corrected row w with its table t, 44 to 50 of the row v on record with its table u, 11 to 15
+unfoldable pub newerCheck : List ℕ → List ℕ → List ℕ → List ℕ → List ℕ → List ℕ → Check
+newerCheck A w t v u q = given A w t then ofRecord (kept A v u) then pattern A q
+
+-- the first match in the row w is at position p, and the subtree there ends at e
+pub record FirstMatch (A w q : List ℕ) (p e : ℕ) : Type 0 where
+  pub within : p < length w
+  pub here : MatchesAt A w q p
+  pub before : (k : ℕ) → k < p → MatchesAt A w q k → ⊥
+  pub end : e ≡ getD (table A w) p 0
+
+abbrev pub NoMatch : List ℕ → List ℕ → List ℕ → Type 0
+NoMatch A w q = (k : ℕ) → k < length w → MatchesAt A w q k → ⊥
+
+-- what an answer says
+abbrev pub NewestSays : List ℕ → List ℕ → List ℕ → List ℕ → List ℕ → List ℕ → Newest → Type 0
+NewestSays A w t v u q (Corrected p e) = (newerCheck A w t v u q ≡ Fine) × FirstMatch A w q p e
+NewestSays A w t v u q (OnRecordAt p e) = (newerCheck A w t v u q ≡ Fine) × NoMatch A w q × FirstMatch A v q p e
+NewestSays A w t v u q Nowhere = (newerCheck A w t v u q ≡ Fine) × NoMatch A w q × NoMatch A v q
+NewestSays A w t v u q (NewestRefused r) = newerCheck A w t v u q ≡ Refused r
+
+-- the row of the subtree that an answer speaks of; nothing where it speaks of none
+abbrev pub newestPart : List ℕ → List ℕ → List ℕ → Newest → List ℕ
+newestPart A w v (Corrected p e) = prefix (single (subtreeAt (parse A w) p))
+newestPart A w v (OnRecordAt p e) = prefix (single (subtreeAt (parse A v) p))
+newestPart A w v Nowhere = []
+newestPart A w v (NewestRefused r) = []
+
+-- the part `x` is that of an answer
+pub record NewerPart (A w t v u q x : List ℕ) : Type 0 where
+  pub answer : Newest
+  pub says : NewestSays A w t v u q answer
+  pub part : x ≡ newestPart A w v answer

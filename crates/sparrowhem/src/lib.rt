@@ -1,12 +1,18 @@
 // Sparrowhem's public calls. None of them asks anything of its caller: faulty input is refused with a number and a place.
 mod edit;
+mod matcher;
 mod parts;
 mod search;
 mod table;
 
 pub use edit::Replaced;
 pub use edit::replace;
+pub use matcher::Fits;
+pub use matcher::plain_match;
+pub use parts::Newest;
 pub use parts::Placed;
+pub use parts::newer;
+pub use parts::newer_answer;
 pub use parts::subtree;
 pub use parts::subtree_answer;
 pub use rows::Check;

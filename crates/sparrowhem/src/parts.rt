@@ -1,6 +1,6 @@
 // Parts of lent rows, handed back and not copied.
 ghost use mathlib.Core.Path.{_≡_};
-ghost use Rattle.sparrowhem.specs.Parts.{subtreeCheck, subtreePart, subtreeAnswer};
+ghost use Rattle.sparrowhem.specs.Parts.{subtreeCheck, subtreePart, subtreeAnswer, onRecord, newerCheck, NewestSays, NewerPart};
 use rows::Check;
 use rows::Refusal;
 
@@ -42,5 +42,108 @@ pub fn subtree<'a>(arities: &[u16], row: &'a [u16], table: &[u16], position: usi
     match subtree_answer(arities, row, table, position) {
         Placed::Unplaced(_) => &row[0..0],
         Placed::Span(begin, end) => &row[begin..end],
+    }
+}
+
+// Which row has the first match, and begin and end of the subtree there, the end not included; or that neither has one;
+// or why the call refuses.
+pub enum Newest {
+    Corrected(usize, usize),
+    OnRecord(usize, usize),
+    Nowhere,
+    Refused(Refusal),
+}
+
+// A refusal of a row with its table, 4 to 10, as that of the row on record, 44 to 50.
+fn recorded(refusal: Refusal) -> Refusal
+    ensures { λ r. ⌜ r ≡ onRecord refusal ⌝ }
+{
+    match refusal {
+        Refusal::Row(f) => Refusal::OnRecord(f),
+        Refusal::BufferShort(n) => Refusal::OnRecordShort(n),
+        Refusal::Stale(p) => Refusal::OnRecordStale(p),
+        _ => refusal,
+    }
+}
+
+// Refusals 1 to 3, 4 to 10 of the corrected row, 44 to 50, and 11 to 15.
+fn check_newer(
+    arities: &[u16],
+    corrected: &[u16],
+    corrected_table: &[u16],
+    record: &[u16],
+    record_table: &[u16],
+    pattern: &[u16],
+) -> Check
+    ensures { λ r. ⌜ r ≡ newerCheck (now (arities .entry)) (now (corrected .entry)) (now («corrected_table» .entry)) (now («record» .entry)) (now («record_table» .entry)) (now (pattern .entry)) ⌝ }
+{
+    match tables::check_given(arities, corrected, corrected_table) {
+        Check::Refused(r) => Check::Refused(r),
+        Check::Fine => match tables::check_kept(arities, record, record_table) {
+            Check::Refused(r) => Check::Refused(recorded(r)),
+            Check::Fine => patterns::check_pattern(arities, pattern),
+        },
+    }
+}
+
+// The companion of `newer`: the first match in the corrected row, or if there is none, in the row on record, or if there is
+// none, nowhere; or the refusal. A refused corrected row never falls through to the older one.
+pub fn newer_answer(
+    arities: &[u16],
+    corrected: &[u16],
+    corrected_table: &[u16],
+    record: &[u16],
+    record_table: &[u16],
+    pattern: &[u16],
+) -> Newest
+    ensures { λ r. ⌜ NewestSays (now (arities .entry)) (now (corrected .entry)) (now («corrected_table» .entry)) (now («record» .entry)) (now («record_table» .entry)) (now (pattern .entry)) r ⌝ }
+{
+    match check_newer(
+        arities,
+        corrected,
+        corrected_table,
+        record,
+        record_table,
+        pattern,
+    ) {
+        Check::Refused(r) => Newest::Refused(r),
+        Check::Fine => {
+            let p = patterns::next_match(corrected, corrected_table, pattern, 0);
+            if p < corrected.len() {
+                return Newest::Corrected(p, corrected_table[p] as usize);
+            }
+            let q = patterns::next_match(record, record_table, pattern, 0);
+            if q < record.len() {
+                return Newest::OnRecord(q, record_table[q] as usize);
+            }
+            Newest::Nowhere
+        }
+    }
+}
+
+// The subtree of the first match in the corrected row, or if there is none, of the first in the row on record, as a part of
+// its row; empty exactly if there is none in either, or for a refusal.
+pub fn newer<'a>(
+    arities: &[u16],
+    corrected: &'a [u16],
+    corrected_table: &[u16],
+    record: &'a [u16],
+    record_table: &[u16],
+    pattern: &[u16],
+) -> &'a [u16]
+    ensures { λ r. ⌜ NewerPart (now (arities .entry)) (now (corrected .entry)) (now («corrected_table» .entry)) (now («record» .entry)) (now («record_table» .entry)) (now (pattern .entry)) (now r) ⌝ }
+{
+    match newer_answer(
+        arities,
+        corrected,
+        corrected_table,
+        record,
+        record_table,
+        pattern,
+    ) {
+        Newest::Corrected(begin, end) => &corrected[begin..end],
+        Newest::OnRecord(begin, end) => &record[begin..end],
+        Newest::Nowhere => &corrected[0..0],
+        Newest::Refused(_) => &corrected[0..0],
     }
 }
