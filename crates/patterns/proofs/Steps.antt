@@ -7,12 +7,13 @@ use mathlib.Core.Bool.{Bool, true, false}
 use native.Mathlib.Omega.{arith}
 use borrow.Author.Tests.{eq-eqb, ne-eqb}
 use lib.Dec.{eqb}
-use lib.ListN.{getD, set}
+use lib.ListN.{getD, take, drop, set}
 use Rattle.rows.specs.Row.{pick}
 use Rattle.patterns.specs.Pattern.{leaf}
-use Rattle.patterns.specs.Walk.{sameSymbol, agreeing, Outcome, Outcome.misses, Outcome.reaches, meets, takes, steps, stepped, marksAfter, Done}
+use Rattle.patterns.specs.Walk.{sameSymbol, sameFront, agreeing, Outcome, Outcome.misses, Outcome.reaches, meets, takes, steps, stepped, marksAfter, Done}
 use Rattle.patterns.specs.declared.Leaf.the-variants.{Plain, Blank, Variable}
 use Rattle.patterns.specs.declared.Stepped.{Stepped}
+use Rattle.patterns.specs.declared.Stepped.the-variants.{To, Miss}
 use Rattle.patterns.proofs.Leaves.{Kind, kind}
 
 -- the answer for an outcome that is known
@@ -44,6 +45,29 @@ module _ (w e : List ℕ) (j : ℕ) (ms : List ℕ) (i : ℕ) where
 
     pub meets-other : (n ≡ getD e j 0 - j → ⊥) → meets w e j ms i (getD ms i 0) ≡ misses (j + n)
     meets-other y = meets-later false (ne-eqb n (getD e j 0 - j) y)
+
+-- a variable at a subtree that stands up to `end`
+module _ (w e : List ℕ) (j end : ℕ) (y : getD e j 0 ≡ end) (ms : List ℕ) (i : ℕ) where
+  -- what is told of a place, for the end that the table has
+  abbrev Told : (ℕ → Stepped) → List ℕ → Type 0
+  Told r ms′ = Done (meets w e j ms i (getD ms i 0)) ms (r end) ms′
+
+  pub met-first : getD ms i 0 ≡ 0 → Told To (set ms i (j + 1))
+  met-first z =
+      subst (λ (n : ℕ). Done (meets w e j ms i (getD ms i 0)) ms (To n) (set ms i (j + 1))) y
+      (answers _ (reaches (getD e j 0) (set ms i (j + 1))) ms (meets-first w e j ms i z))
+
+  module _ (later : getD ms i 0 ≡ 0 → ⊥) (n : ℕ) (z : n ≡ sameFront (take (end - j) (drop (getD ms i 0 - 1) w)) (take (end - j) (drop j w))) where
+    agrees : n ≡ agreeing w e (getD ms i 0 - 1) j
+    agrees = z ∙ ap (λ (x : ℕ). sameFront (take (x - j) (drop (getD ms i 0 - 1) w)) (take (x - j) (drop j w))) (sym y)
+
+    pub met-same : n ≡ end - j → Told To ms
+    met-same t =
+        subst (λ (x : ℕ). Done (meets w e j ms i (getD ms i 0)) ms (To x) ms) y
+        (answers _ (reaches (getD e j 0) ms) ms (meets-same w e j ms i later n agrees (t ∙ ap (λ (x : ℕ). x - j) (sym y))))
+
+    pub met-other : (n ≡ end - j → ⊥) → Told (λ x. Miss (j + n)) ms
+    met-other t = answers _ (misses (j + n)) ms (meets-other w e j ms i later n agrees (λ d. t (d ∙ ap (λ (x : ℕ). x - j) y)))
 
 -- a number of the pattern
 module _ (w e : List ℕ) (s j : ℕ) (ms : List ℕ) where

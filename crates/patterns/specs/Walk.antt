@@ -91,6 +91,14 @@ pub record MarksIn (n : ℕ) (ms : List ℕ) : Type 0 where
   pub many : length ms ≡ 16
   pub all : (i : ℕ) → getD ms i 0 ≤ n
 
+-- variable i at position j of the row w, where a subtree stands up to `end`, with marks of positions before j
+pub record Meetable (w : List ℕ) (i j end : ℕ) (ms : List ℕ) : Type 0 where
+  pub most : length w ≤ 16384
+  pub variable : i < 16
+  pub past : j < end
+  pub within : end ≤ length w
+  pub marks : MarksIn j ms
+
 -- the code's answer for a step, and the marks that it leaves where it found ms
 abbrev pub stepped : Outcome → Stepped
 stepped (misses j) = Miss j

@@ -8,6 +8,8 @@ ghost use Rattle.rows.specs.Refusals.{pattern};
 ghost use Rattle.patterns.specs.Pattern.{leaf};
 ghost use Rattle.patterns.specs.Searches.{Checked, Searchable, Next, Counts, Lists, Room, Binds};
 ghost use Rattle.patterns.specs.Walk.{sameSymbol, sameFront, meets, steps, Ends, MarksIn, Done, markBegin, markEnd, markSpans};
+ghost use Rattle.patterns.specs.Answers.{Checked, Searchable, Next, Counts, Lists, Room, Binds};
+ghost use Rattle.patterns.specs.Walk.{sameSymbol, sameFront, meets, steps, Ends, MarksIn, Meetable, Done, markBegin, markEnd, markSpans};
 use rows::Check;
 use rows::Leaves;
 use rows::Refusal;
@@ -50,7 +52,7 @@ pub fn same(x: u16, y: u16) -> bool
 }
 
 // How many of the n symbols from a on are the same as those from b on: left at the first that differs.
-pub fn count_same(row: &[u16], a: usize, b: usize, n: usize) -> usize
+fn count_same(row: &[u16], a: usize, b: usize, n: usize) -> usize
     requires { ⌜ (a + n ≤ length (now row)) × (b + n ≤ length (now row)) ⌝ }
     ensures { λ r. ⌜ r ≡ sameFront (take n (drop a (now (row .entry)))) (take n (drop b (now (row .entry)))) ⌝ }
 {
@@ -72,12 +74,12 @@ pub enum Stepped {
     Miss(usize),
 }
 
-// Variable i at row position j. At its first place it is marked; at a later one the subtree of the first stands again.
-fn meet(row: &[u16], table: &[u16], i: usize, j: usize, marks: &mut [u16; 16]) -> Stepped
-    requires { ⌜ Ends (now row) (now table) × MarksIn j (now marks) × (i < 16) × (j < length (now row)) ⌝ }
-    ensures { λ r. ⌜ Done (meets (now (row .entry)) (now (table .entry)) j (now (marks .entry)) i (getD (now (marks .entry)) i 0)) (now (marks .entry)) r (now (marks .exit)) ⌝ }
+// Variable i at row position j, where a subtree stands up to `end`. At its first place it is marked; at a later one the
+// subtree of the first stands again.
+pub fn meet(row: &[u16], i: usize, j: usize, end: usize, marks: &mut [u16; 16]) -> Stepped
+    requires { ⌜ Meetable (now row) i j end (now marks) ⌝ }
+    ensures { λ r. ⌜ ((e : List ℕ) → getD e j 0 ≡ end → Done (meets (now (row .entry)) e j (now (marks .entry)) i (getD (now (marks .entry)) i 0)) (now (marks .entry)) r (now (marks .exit))) ⌝ }
 {
-    let end = table[j] as usize;
     let mark = marks[i] as usize;
     if mark == 0 {
         marks[i] = (j + 1) as u16;
@@ -103,7 +105,7 @@ fn step(row: &[u16], table: &[u16], s: u16, j: usize, marks: &mut [u16; 16]) -> 
     match kind {
         Leaf::Plain => Stepped::Miss(j),
         Leaf::Blank => Stepped::To(table[j] as usize),
-        Leaf::Variable(i) => meet(row, table, i, j, marks),
+        Leaf::Variable(i) => meet(row, i, j, table[j] as usize, marks),
     }
 }
 

@@ -17,14 +17,14 @@ use Rattle.rows.specs.declared.Leaves.the-variants.{Blanks}
 use Rattle.rows.proofs.Behind.{behind}
 use Rattle.rows.proofs.Entry.{entry-first}
 use Rattle.patterns.specs.Pattern.{leaf}
-use Rattle.patterns.specs.Walk.{sameSymbol, sameFront, agreeing, Outcome, Outcome.misses, Outcome.reaches, meets, steps, onward, walk, MarksIn, Answers}
+use Rattle.patterns.specs.Walk.{sameSymbol, sameFront, agreeing, Outcome, Outcome.misses, Outcome.reaches, meets, steps, onward, walk, MarksIn, Meetable, Done}
 use Rattle.patterns.specs.declared.Leaf.the-variants.{Plain, Blank, Variable}
 use Rattle.patterns.specs.declared.Stepped.{Stepped}
 use Rattle.patterns.specs.declared.Stepped.the-variants.{To, Miss}
 use Rattle.patterns.proofs.Leaves.{Kind, kind}
 use Rattle.patterns.proofs.Marks.{marks-wider, marks-set}
 use Rattle.patterns.proofs.Steps.{answers, meets-first, meets-same, meets-other, steps-same, steps-plain, steps-blank, steps-variable}
-use Rattle.plain.specs.Plain.{starts, Spells, Lent, Passes, Tells, Meetable}
+use Rattle.plain.specs.Plain.{starts, Spells, Lent, Passes, Tells}
 use Rattle.plain.specs.declared.Tried.{Tried}
 use Rattle.plain.specs.declared.Tried.the-variants.{Past, Miss as Missed}
 use Rattle.plain.proofs.Spelling.{tail, tail-is, spells-some, spells-inside, spells-behind, first-within, first-some, first-more, first-over}
@@ -106,35 +106,12 @@ first-leaf A l few some h =
     let none : getD A (getD l 0 0) 0 ≡ 0 = List·getD-eq-default A 0 (omega arith) in
     omega (arith, first-inside A l some, ap (λ (k : ℕ). size (first k (parse A (drop 1 l)))) none)
 
--- a variable at a tree that stands up to `end`
-module _ (w e : List ℕ) (j end : ℕ) (y : getD e j 0 ≡ end) (ms : List ℕ) (i : ℕ) where
-  -- what is told of a place, for the end that the table has
-  abbrev Met : (ℕ → Stepped) → List ℕ → Type 0
-  Met r ms′ = Answers (meets w e j ms i (getD ms i 0)) ms (r end) ms′
-
-  pub met-first : getD ms i 0 ≡ 0 → Met To (set ms i (j + 1))
-  met-first z =
-      subst (λ (n : ℕ). Answers (meets w e j ms i (getD ms i 0)) ms (To n) (set ms i (j + 1))) y
-      (answers _ (reaches (getD e j 0) (set ms i (j + 1))) ms (meets-first w e j ms i z))
-
-  module _ (later : getD ms i 0 ≡ 0 → ⊥) (n : ℕ) (z : n ≡ sameFront (take (end - j) (drop (getD ms i 0 - 1) w)) (take (end - j) (drop j w))) where
-    agrees : n ≡ agreeing w e (getD ms i 0 - 1) j
-    agrees = z ∙ ap (λ (x : ℕ). sameFront (take (x - j) (drop (getD ms i 0 - 1) w)) (take (x - j) (drop j w))) (sym y)
-
-    pub met-same : n ≡ end - j → Met To ms
-    met-same t =
-        subst (λ (x : ℕ). Answers (meets w e j ms i (getD ms i 0)) ms (To x) ms) y
-        (answers _ (reaches (getD e j 0) ms) ms (meets-same w e j ms i later n agrees (t ∙ ap (λ (x : ℕ). x - j) (sym y))))
-
-    pub met-other : (n ≡ end - j → ⊥) → Met (λ x. Miss (j + n)) ms
-    met-other t = answers _ (misses (j + n)) ms (meets-other w e j ms i later n agrees (λ d. t (d ∙ ap (λ (x : ℕ). x - j) y)))
-
 -- what an answer says of the outcome
-answer-to : (o : Outcome) (ms : List ℕ) (n : ℕ) (ms′ : List ℕ) → Answers o ms (To n) ms′ → o ≡ reaches n ms′
+answer-to : (o : Outcome) (ms : List ℕ) (n : ℕ) (ms′ : List ℕ) → Done o ms (To n) ms′ → o ≡ reaches n ms′
 answer-to (misses x) ms n ms′ a = let e = a .answer in let z : _≡_ {A = ℕ} 0 1 = cc in absurd (omega arith)
 answer-to (reaches x v) ms n ms′ a = let e = a .answer in let z : x ≡ n = cc in ap₂ reaches z (sym (a .marks))
 
-answer-miss : (o : Outcome) (ms : List ℕ) (n : ℕ) (ms′ : List ℕ) → Answers o ms (Miss n) ms′ → o ≡ misses n
+answer-miss : (o : Outcome) (ms : List ℕ) (n : ℕ) (ms′ : List ℕ) → Done o ms (Miss n) ms′ → o ≡ misses n
 answer-miss (misses x) ms n ms′ a = let e = a .answer in let z : x ≡ n = cc in ap misses z
 answer-miss (reaches x v) ms n ms′ a = let e = a .answer in let z : _≡_ {A = ℕ} 0 1 = cc in absurd (omega arith)
 
@@ -276,11 +253,11 @@ module _ (A q l u ms : List ℕ) (h : Lent A q l u ms 1) where
 
         -- what the variable's place tells
         module _ (r : Stepped) (ms′ : List ℕ)
-            (a : (t : List ℕ) → getD t j 0 ≡ j + n → Answers (meets l t j ms i (getD ms i 0)) ms r ms′) (x : ℕ) where
+            (a : (t : List ℕ) → getD t j 0 ≡ j + n → Done (meets l t j ms i (getD ms i 0)) ms r ms′) (x : ℕ) where
           pub passes-met : r ≡ To x → Passes A q l u ms 1 1 n ms′
           passes-met y =
               let o : Outcome = meets l e j ms i (getD ms i 0) in
-              let came : o ≡ reaches x ms′ = answer-to o ms x ms′ (subst (λ (v : Stepped). Answers o ms v ms′) y (a e end-is)) in
+              let came : o ≡ reaches x ms′ = answer-to o ms x ms′ (subst (λ (v : Stepped). Done o ms v ms′) y (a e end-is)) in
               let far : x ≡ j + n = end-met l e j ms i (getD ms i 0) x ms′ came ∙ end-is in
               let z : o ≡ reaches (j + n) ms′ = came ∙ ap (λ (i : ℕ). reaches i ms′) far in
               passes-leaf ms′ (small .0) (marks-met l e j ms i (getD ms i 0) (j + n) ms′ (h .marks) (omega (arith, some)) z) (steps-met ∙ z)
@@ -288,7 +265,7 @@ module _ (A q l u ms : List ℕ) (h : Lent A q l u ms 1) where
           pub misses-met : r ≡ Miss x → walk l e q j ms ≡ misses x
           misses-met y =
               let o : Outcome = meets l e j ms i (getD ms i 0) in
-              step-on (misses x) (steps-met ∙ answer-miss o ms x ms′ (subst (λ (v : Stepped). Answers o ms v ms′) y (a e end-is)))
+              step-on (misses x) (steps-met ∙ answer-miss o ms x ms′ (subst (λ (v : Stepped). Done o ms v ms′) y (a e end-is)))
 
 -- one tree, then the others
 module _ (A q l u ms : List ℕ) (k : ℕ) (h : Lent A q l u ms k) (more : 0 < k) where

@@ -44,14 +44,6 @@ pub record Tells (A q l u ms : List ℕ) (k : ℕ) (r : Tried) (ms′ : List ℕ
   pub past : (p j : ℕ) → r ≡ Past p j → Passes A q l u ms k p j ms′
   pub miss : (x : ℕ) → r ≡ Miss x → walk l (table A l) q (starts l u) ms ≡ misses x
 
--- variable i at place j of the part l, where a tree stands up to `end`, with the marks so far
-pub record Meetable (l : List ℕ) (i j end : ℕ) (ms : List ℕ) : Type 0 where
-  pub most : length l ≤ 16384
-  pub variable : i < 16
-  pub past : j < end
-  pub within : end ≤ length l
-  pub marks : MarksIn j ms
-
 -- an accepted pattern, and the part of an accepted row from a position on
 pub record Tryable (A l q : List ℕ) : Type 0 where
   pub few : length A ≤ 1024

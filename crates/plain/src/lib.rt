@@ -2,14 +2,10 @@
 // each node, on a shorter and shorter part of the row.
 ghost use mathlib.Core.Path.{_≡_};
 ghost use mathlib.Core.Bool.{true};
-ghost use mathlib.Core.List.{List};
 ghost use mathlib.Core.Logic.{_↔_};
-ghost use Prim.Native.Nat.{ℕ};
-ghost use lib.ListN.{getD};
 ghost use Rattle.rows.specs.Parse.{treeOf};
 ghost use Rattle.patterns.specs.Pattern.{Matches};
-ghost use Rattle.patterns.specs.Walk.{meets, Answers};
-ghost use Rattle.plain.specs.Plain.{Meetable, Lent, Tells, Tryable};
+ghost use Rattle.plain.specs.Plain.{Lent, Tells, Tryable};
 use patterns::Leaf;
 use patterns::Stepped;
 
@@ -18,25 +14,6 @@ use patterns::Stepped;
 pub enum Tried {
     Past(usize, usize),
     Miss(usize),
-}
-
-// Variable i at place j of the part, where a tree stands up to `end`. At its first place it is marked; at a later one the
-// tree of the first stands again.
-fn meet(part: &[u16], i: usize, j: usize, end: usize, marks: &mut [u16; 16]) -> Stepped
-    requires { ⌜ Meetable (now part) i j end (now marks) ⌝ }
-    ensures { λ r. ⌜ ((e : List ℕ) → getD e j 0 ≡ end → Answers (meets (now (part .entry)) e j (now (marks .entry)) i (getD (now (marks .entry)) i 0)) (now (marks .entry)) r (now (marks .exit))) ⌝ }
-{
-    let m = marks[i] as usize;
-    if m == 0 {
-        marks[i] = (j + 1) as u16;
-        return Stepped::To(end);
-    }
-    let n = end - j;
-    let equal = patterns::count_same(part, m - 1, j, n);
-    if equal == n {
-        return Stepped::To(end);
-    }
-    Stepped::Miss(j + equal)
 }
 
 // The first tree of the pattern at the first tree of `rest`, which is the end of the part.
@@ -66,7 +43,7 @@ fn node(
         Leaf::Blank => Tried::Past(1, tables::tree_length(arities, rest)),
         Leaf::Variable(i) => {
             let n = tables::tree_length(arities, rest);
-            let met = meet(part, i, at, at + n, marks);
+            let met = patterns::meet(part, i, at, at + n, marks);
             match met {
                 Stepped::To(_) => Tried::Past(1, n),
                 Stepped::Miss(x) => Tried::Miss(x),

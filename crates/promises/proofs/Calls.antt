@@ -1,8 +1,9 @@
 -- The promises of specs/Calls, each with its proof.
 -- Assumes nothing.
-use Prim.Native.Nat.{ℕ, _+_, _-_, _<_}
+use Prim.Native.Nat.{ℕ, _+_, _-_, _<_, _≤_}
 use mathlib.Core.Path.{_≡_, refl, sym, ap, ap₂, _∙_, subst}
 use mathlib.Core.List.{List, []}
+use mathlib.Core.Logic.{_⊎_, inl, inr, ⊎-elim}
 use native.Mathlib.Nat.{zero-add}
 use lib.ListN.{length, take, drop, length-drop}
 use lib.Seq.{drop-at, length-take-le}
@@ -10,7 +11,7 @@ use Rattle.rows.specs.Tree.{IsRow}
 use Rattle.rows.specs.Parse.{table}
 use Rattle.rows.specs.Row.{symbol, verdict, allowed}
 use Rattle.rows.specs.Buffers.{written, after}
-use Rattle.rows.specs.Refusals.{_then_, asRow, sizes, symbols}
+use Rattle.rows.specs.Refusals.{_then_, asRow, sizes, symbols, kept, pattern}
 use Rattle.rows.specs.declared.Leaves.the-variants.{Symbols}
 use Rattle.rows.specs.declared.Check.{Check}
 use Rattle.rows.specs.declared.Check.the-variants.{Fine}
@@ -20,8 +21,11 @@ use Rattle.rows.proofs.Entry.{length-table}
 use Rattle.rows.proofs.Promises.{table-of-row}
 use Rattle.tables.proofs.Given.{row-fine}
 use Rattle.sparrowhem.specs.Build.{buildCheck}
-use Rattle.promises.specs.Calls.{Build-settled, Build-refused, Build-accepts, Build-writes, Subtree-part, Subtree-empty, Find-settled, Find-refused, Find-lists, Find-short, Find-computed, Variables-settled, Variables-matched, Variables-unmatched, Variables-refused, Variables-computed}
-use Rattle.sparrowhem.specs.Parts.{subtreePart, subtreeAnswer}
+use Rattle.promises.specs.Calls.{Build-settled, Build-refused, Build-accepts, Build-writes, Subtree-part, Subtree-empty, Find-settled, Find-refused, Find-lists, Find-short, Find-computed, Variables-settled, Variables-matched, Variables-unmatched, Variables-refused, Variables-computed, Newest-settled, Newer-part, Newer-settled, Newer-lies, Newer-empty, Newer-refused, Newer-numbers}
+use Rattle.sparrowhem.specs.Parts.{subtreePart, subtreeAnswer, ofRecord, newerCheck, NewestSays, newestPart}
+use Rattle.sparrowhem.specs.declared.parts.Newest.{Newest}
+use Rattle.sparrowhem.specs.declared.parts.Newest.the-variants.{Corrected, OnRecord, Nowhere, Refused as NewestRefused}
+use Rattle.sparrowhem.proofs.Preferring.{match-within, match-part, one-answer, kept-renumbered}
 use Rattle.sparrowhem.specs.declared.parts.Placed.{Placed}
 use Rattle.sparrowhem.specs.declared.parts.Placed.the-variants.{Span, Unplaced}
 use Rattle.rows.specs.declared.Refusal.the-variants.{OutputShort}
@@ -148,3 +152,46 @@ variables-unmatched A w t q p y y′ f = binds-tells A w t q p y Unmatched y′ 
 
 pub variables-refused : Variables-refused
 variables-refused A w t q p y r y′ f = binds-tells A w t q p y (BindRefused r) y′ f
+
+pub newest-settled : Newest-settled
+newest-settled = one-answer
+
+pub newer-part : Newer-part
+newer-part A w t v u q x r h k = h .part ∙ ap (newestPart A w v) (one-answer A w t v u q (h .answer) r (h .says) k)
+
+pub newer-settled : Newer-settled
+newer-settled A w t v u q x y h k = newer-part A w t v u q x (k .answer) h (k .says) ∙ sym (k .part)
+
+pub newer-lies : Newer-lies
+newer-lies A w t v u q x p e h = (
+  λ k. (let b = match-within A w q p e (k .1) in (b .0, b .1, newer-part A w t v u q x (Corrected p e) h k ∙ sym (match-part A w q p e (k .1)))),
+  λ k. (let b = match-within A v q p e (k .2) in (b .0, b .1, newer-part A w t v u q x (OnRecord p e) h k ∙ sym (match-part A v q p e (k .2)))),
+)
+
+pub newer-empty : Newer-empty
+newer-empty A w t v u q x r h k = (λ none. to r k none, λ c. from r k c)
+  where
+    -- a part between a begin and a later end has a symbol
+    some : (l : List ℕ) (p e : ℕ) → p < e → e ≤ length l → take (e - p) (drop p l) ≡ [] → ⊥
+    some l p e b c z =
+        let long : length (take (e - p) (drop p l)) ≡ e - p = length-take-le (e - p) (drop p l) (simp length-drop (omega arith)) in
+        omega (arith, long, ap length z)
+
+    to : (r : Newest) → NewestSays A w t v u q r → x ≡ [] → (r ≡ Nowhere) ⊎ ((y : Refusal) × (r ≡ NewestRefused y))
+    to (Corrected p e) k none = let l = newer-lies A w t v u q x p e h .0 k in absurd (some w p e (l .0) (l .1) (sym (l .2) ∙ none))
+    to (OnRecord p e) k none = let l = newer-lies A w t v u q x p e h .1 k in absurd (some v p e (l .0) (l .1) (sym (l .2) ∙ none))
+    to Nowhere k none = inl refl
+    to (NewestRefused y) k none = inr (y, refl)
+
+    from : (r : Newest) → NewestSays A w t v u q r → (r ≡ Nowhere) ⊎ ((y : Refusal) × (r ≡ NewestRefused y)) → x ≡ []
+    from (Corrected p e) k c = absurd (⊎-elim (λ z. (let y : _≡_ {A = ℕ} 0 1 = cc in omega arith)) (λ z. (let e = z .1 in let y : _≡_ {A = ℕ} 0 1 = cc in omega arith)) c)
+    from (OnRecord p e) k c = absurd (⊎-elim (λ z. (let y : _≡_ {A = ℕ} 0 1 = cc in omega arith)) (λ z. (let e = z .1 in let y : _≡_ {A = ℕ} 0 1 = cc in omega arith)) c)
+    from Nowhere k c = newer-part A w t v u q x Nowhere h k
+    from (NewestRefused y) k c = newer-part A w t v u q x (NewestRefused y) h k
+
+pub newer-refused : Newer-refused
+unfolding newerCheck
+newer-refused A w t v u q r y k e = one-answer A w t v u q r (NewestRefused y) k (ap (λ (c : Check). c then ofRecord (kept A v u) then pattern A q) e)
+
+pub newer-numbers : Newer-numbers
+newer-numbers = kept-renumbered

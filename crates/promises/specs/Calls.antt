@@ -1,15 +1,15 @@
 -- The promises on the public calls, in document 01's words. Each is proved in proofs/Calls, under the same name in
 -- small letters.
-use Prim.Native.Nat.{ℕ, _-_, _<_, _≤_}
+use Prim.Native.Nat.{ℕ, _+_, _-_, _<_, _≤_}
 use mathlib.Core.Path.{_≡_}
 use mathlib.Core.List.{List, []}
-use mathlib.Core.Logic.{_↔_}
+use mathlib.Core.Logic.{_↔_, _⊎_}
 use lib.ListN.{length, take, drop}
 use Rattle.rows.specs.Tree.{IsRow, single, ends}
 use Rattle.rows.specs.Parse.{table}
 use Rattle.rows.specs.Row.{pick, symbol}
 use Rattle.rows.specs.Buffers.{written, after}
-use Rattle.rows.specs.Refusals.{alphabet, sizes}
+use Rattle.rows.specs.Refusals.{number, place, alphabet, sizes, kept, given}
 use Rattle.rows.specs.declared.Refusal.{Refusal}
 use Rattle.rows.specs.declared.Refusal.the-variants.{OutputShort}
 use Rattle.rows.specs.declared.Check.{Check}
@@ -17,13 +17,15 @@ use Rattle.rows.specs.declared.Check.the-variants.{Fine, Refused}
 use Rattle.sparrowhem.specs.Build.{Built}
 use Rattle.patterns.specs.Answers.{MatchesAt, Listed, spans}
 use Rattle.patterns.specs.Walk.{comesThrough, listOf}
-use Rattle.sparrowhem.specs.Parts.{subtreePart, subtreeAnswer}
+use Rattle.sparrowhem.specs.Parts.{subtreePart, subtreeAnswer, onRecord, NewestSays, newestPart, NewerPart}
 use Rattle.sparrowhem.specs.Search.{searchCheck, findCheck, found, Finds, bindCheck, bound, Binds}
 use Rattle.sparrowhem.specs.declared.search.Found.{Found}
 use Rattle.sparrowhem.specs.declared.search.Found.the-variants.{Matches, Refused as FindRefused}
 use Rattle.sparrowhem.specs.declared.search.Bound.{Bound}
 use Rattle.sparrowhem.specs.declared.search.Bound.the-variants.{Matched, Unmatched, Refused as BindRefused}
 use Rattle.sparrowhem.specs.declared.parts.Placed.the-variants.{Span, Unplaced}
+use Rattle.sparrowhem.specs.declared.parts.Newest.{Newest}
+use Rattle.sparrowhem.specs.declared.parts.Newest.the-variants.{Corrected, OnRecord, Nowhere, Refused as NewestRefused}
 
 -- Build's contract settles its answer and the table: two outcomes are equal.
 abbrev pub Build-settled : Type 0
@@ -52,6 +54,37 @@ Subtree-part = (A w t : List ℕ) (p b e : ℕ) → subtreeAnswer A w t p ≡ Sp
 -- It is empty exactly if the companion refuses.
 abbrev pub Subtree-empty : Type 0
 Subtree-empty = (A w t : List ℕ) (p : ℕ) → (subtreePart A w t p ≡ []) ↔ ((r : Refusal) × (subtreeAnswer A w t p ≡ Unplaced r))
+
+-- The contract of the companion of `newer` settles its answer: two answers are equal.
+abbrev pub Newest-settled : Type 0
+Newest-settled = (A w t v u q : List ℕ) (r s : Newest) → NewestSays A w t v u q r → NewestSays A w t v u q s → r ≡ s
+
+-- The part that `newer` hands back is that of the companion's answer.
+abbrev pub Newer-part : Type 0
+Newer-part = (A w t v u q x : List ℕ) (r : Newest) → NewerPart A w t v u q x → NewestSays A w t v u q r → x ≡ newestPart A w v r
+
+-- So its contract settles the part: two parts are equal.
+abbrev pub Newer-settled : Type 0
+Newer-settled = (A w t v u q x y : List ℕ) → NewerPart A w t v u q x → NewerPart A w t v u q y → x ≡ y
+
+-- It lies in the row that the companion answers, between the begin and the end.
+abbrev pub Newer-lies : Type 0
+Newer-lies = (A w t v u q x : List ℕ) (p e : ℕ) → NewerPart A w t v u q x
+    → (NewestSays A w t v u q (Corrected p e) → (p < e) × (e ≤ length w) × (x ≡ take (e - p) (drop p w)))
+    × (NewestSays A w t v u q (OnRecord p e) → (p < e) × (e ≤ length v) × (x ≡ take (e - p) (drop p v)))
+
+-- It is empty exactly if the companion says nowhere or refuses.
+abbrev pub Newer-empty : Type 0
+Newer-empty = (A w t v u q x : List ℕ) (r : Newest) → NewerPart A w t v u q x → NewestSays A w t v u q r
+    → (x ≡ []) ↔ ((r ≡ Nowhere) ⊎ ((y : Refusal) × (r ≡ NewestRefused y)))
+
+-- A refused corrected row never falls through to the older one.
+abbrev pub Newer-refused : Type 0
+Newer-refused = (A w t v u q : List ℕ) (r : Newest) (y : Refusal) → NewestSays A w t v u q r → given A w t ≡ Refused y → r ≡ NewestRefused y
+
+-- 4 to 10 of the row on record are numbered 44 to 50, with the same places.
+abbrev pub Newer-numbers : Type 0
+Newer-numbers = (A v u : List ℕ) (y : Refusal) → kept A v u ≡ Refused y → (number (onRecord y) ≡ number y + 40) × (place (onRecord y) ≡ place y)
 
 -- Find's contract settles its answer and the output: two outcomes are equal.
 abbrev pub Find-settled : Type 0

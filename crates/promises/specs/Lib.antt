@@ -1,3 +1,4 @@
 pub mod Calls
+pub mod Plain
 pub mod Runs
 pub mod Edits

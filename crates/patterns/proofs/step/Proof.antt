@@ -1,7 +1,7 @@
 -- `patterns::step` meets its contract, by the kind of the number.
 -- Assumes nothing.
 use Prim.Native.Nat.{_+_}
-use mathlib.Core.Path.{sym, _∙_}
+use mathlib.Core.Path.{refl, sym, _∙_}
 use native.Mathlib.Omega.{arith}
 use lib.ListN.{getD}
 use Rattle.patterns.specs.Walk.{Outcome.misses, Outcome.reaches}
@@ -49,10 +49,25 @@ cast-t17 c = omega (arith, c .shared-slice-known4 .given (c .before .before .bef
 enum-known-kind : tie.Need-enum-known-kind
 enum-known-kind c = search needs
 
+mul-meet : tie.Need-mul-meet
+mul-meet c = search needs
+
+shared-slice-read-meet : tie.Need-shared-slice-read-meet
+shared-slice-read-meet c = search needs
+
+cast-meet : tie.Need-cast-meet
+cast-meet c = omega (arith, c .shared-slice-known5 .given (c .before .before .before .before .before .before .before .before .before .before .args .j))
+
 meet-requires : tie.Need-meet-requires
 meet-requires c κs =
-    let l = c .before .before .before .before in let s = l .before .before .before .before .before .before in
-    (s .pre .0, s .pre .1, variable-small (s .args .s) _ (sym (l .leaf-of .ensures) ∙ c .before .before .kind .given .1), s .pre .2)
+    let l = c .before .before .before .before .before in let s = l .before .before .before .before .before .before in
+    record {
+      most = s .pre .0 .most;
+      variable = variable-small (s .args .s) _ (sym (l .leaf-of .ensures) ∙ c .before .before .before .kind .given .1);
+      past = s .pre .0 .past (s .args .j) (s .pre .2);
+      within = s .pre .0 .within (s .args .j) (s .pre .2);
+      marks = s .pre .1;
+    }
 
 returns-2 : tie.Need-returns-2
 returns-2 c =
@@ -70,11 +85,11 @@ returns-3 c =
 
 returns-4 : tie.Need-returns-4
 returns-4 c =
-    let l = c .before .before .before .before .before in let g = l .before .before .before .before .before .before .args in
+    let l = c .before .before .before .before .before .before in let g = l .before .before .before .before .before .before .args in
     answers-at _ _ (g .marks .now) (c .meet .result) _
     (steps-variable (g .row .now) (g .table .now) (g .s) (g .j) (g .marks .now) (sym (l .before .before .same .ensures) ∙ l .before .if1 .left) _
-    (sym (l .leaf-of .ensures) ∙ c .before .before .before .kind .given .1))
-    (c .meet .ensures)
+    (sym (l .leaf-of .ensures) ∙ c .before .before .before .before .kind .given .1))
+    (c .meet .ensures (g .table .now) refl)
 
 pub step-spec : {M : Type 1} → statement M
 step-spec =
@@ -92,6 +107,9 @@ step-spec =
     shared-slice-read-t16
     cast-t17
     enum-known-kind
+    mul-meet
+    shared-slice-read-meet
+    cast-meet
     meet-requires
     returns-2
     returns-3

@@ -19,7 +19,7 @@ use Rattle.plain.proofs.node.Kinds as node-kinds
 use Rattle.plain.proofs.+children+node.Lts-node as node-lts
 use Rattle.patterns.proofs.leaf_of.Reads as leaf-of-reads
 use Rattle.patterns.proofs.same.Reads as same-reads
-use Rattle.plain.proofs.meet.Reads as meet-reads
+use Rattle.patterns.proofs.meet.Reads as meet-reads
 use Rattle.rows.proofs.arity_of.Reads as arity-of-reads
 use Rattle.tables.proofs.tree_length.Reads as tree-length-reads
 use Rattle.plain.proofs.+children+node.{statement}
