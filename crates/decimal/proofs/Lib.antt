@@ -1,0 +1,6 @@
+pub mod Numerals
+pub mod Writing
+pub mod Runs
+pub mod Reading
+pub mod Lining
+pub mod Promises

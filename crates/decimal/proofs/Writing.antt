@@ -1,0 +1,56 @@
+-- Laws of what is written into a buffer piece by piece.
+-- Assumes nothing.
+use Prim.Native.Nat.{ℕ, suc, _+_, _≤_, _<_}
+use mathlib.Core.Path.{_≡_, refl, sym, ap, _∙_}
+use mathlib.Core.List.{List, [], _∷_, _++_, append-assoc, append-nil}
+use native.Mathlib.Nat.{add-zero, add-assoc}
+use native.Mathlib.Numerals.{add-one}
+use native.Mathlib.Omega.{arith}
+use lib.ListN.{length, getD, take, drop, set, length-append, length-take, length-drop, take-append-drop}
+use lib.Seq.{length-take-le, take-append-le, take-all, take-at, take-suc, drop-at, drop-cons, set-at, set-split, drop-append-add, take-append-add, drop-drop}
+use Rattle.rows.specs.Buffers.{written}
+use Rattle.decimal.specs.Printed.{Printed}
+
+pub written-none : (b : List ℕ) (at : ℕ) → written b at [] ≡ b
+unfolding written
+written-none b at = rw (add-zero at) (take-append-drop at b)
+
+pub written-length : (b : List ℕ) (at : ℕ) (v : List ℕ) → at + length v ≤ length b → length (written b at v) ≡ length b
+unfolding written
+written-length b at v h = simp (length-append, length-take, length-drop) (omega arith)
+
+pub written-byte : (b : List ℕ) (at x : ℕ) → at < length b → set b at x ≡ written b at (x ∷ [])
+unfolding written
+written-byte b at x h = set-split b at x h ∙ rw (add-one at)
+
+-- a text, and then another behind it
+pub written-append : (b : List ℕ) (at : ℕ) (u v : List ℕ) → at + length u ≤ length b
+    → written (written b at u) (at + length u) v ≡ written b at (u ++ v)
+unfolding written
+written-append b at u v h =
+    let n : length (take at b ++ u) ≡ at + length u = length-append (take at b) u ∙ ap (λ k. k + length u) (length-take-le at b (omega arith)) in
+    let s : take at b ++ (u ++ drop (at + length u) b) ≡ (take at b ++ u) ++ drop (at + length u) b = sym (append-assoc (take at b) u (drop (at + length u) b)) in
+    rw (s, take-at (take at b ++ u) (drop (at + length u) b) (at + length u) n, ← n, drop-append-add (take at b ++ u) (drop (length (take at b ++ u)) b) (length v), n, drop-drop (length v) (at + length u) b, length-append u v, add-assoc, append-assoc, append-assoc)
+
+-- one number more
+pub written-snoc : (b : List ℕ) (at : ℕ) (v : List ℕ) (x : ℕ) → at + length v < length b
+    → set (written b at v) (at + length v) x ≡ written b at (v ++ (x ∷ []))
+written-snoc b at v x h =
+    let l = written-length b at v (omega arith) in
+    written-byte (written b at v) (at + length v) x (omega arith) ∙ written-append b at v (x ∷ []) (omega arith)
+
+pub written-take : (b : List ℕ) (at : ℕ) (v : List ℕ) (i : ℕ) → i < length v → at + length v ≤ length b
+    → set (written b at (take i v)) (at + i) (getD v i 0) ≡ written b at (take (i + 1) v)
+written-take b at v i h k =
+    let l : length (take i v) ≡ i = length-take-le i v (omega arith) in
+    ap (λ j. set (written b at (take i v)) (at + j) (getD v i 0)) (sym l)
+    ∙ written-snoc b at (take i v) (getD v i 0) (omega arith)
+    ∙ rw (add-one i, take-suc v i 0 h)
+
+pub printed-more : {b : List ℕ} {at : ℕ} {u : List ℕ} {m : ℕ} {b′ : List ℕ} {v : List ℕ} {r : ℕ} {b″ : List ℕ}
+    → at + length u ≤ length b → Printed b at u m b′ → Printed b′ m v r b″ → Printed b at (u ++ v) r b″
+printed-more {b} {at} {u} {m} {b′} {v} {r} {b″} h p q =
+    record {
+      next = q .next ∙ rw (p .next, length-append, add-assoc);
+      buffer = q .buffer ∙ rw (p .next, p .buffer, written-append b at u v h);
+    }

@@ -1,0 +1,4 @@
+pub mod Numeral
+pub mod Lines
+pub mod Printed
+pub mod Promises
