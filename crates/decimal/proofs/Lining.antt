@@ -15,7 +15,7 @@ use Rattle.decimal.specs.Numeral.{numeral}
 use Rattle.decimal.specs.Lines.{following, line, Small, endsNumber, Stands, HasLine, LineRead, Room}
 use Rattle.decimal.specs.declared.Cursor.{Cursor}
 use Rattle.decimal.proofs.Numerals.{numeral-some}
-use Rattle.decimal.proofs.Writing.{written-none, written-snoc}
+use Rattle.decimal.proofs.Writing.{written-none, written-length, written-snoc}
 use Rattle.decimal.proofs.Runs.{Same, numeral-alone}
 use Rattle.decimal.proofs.Reading.{inside, front, begins}
 
@@ -174,3 +174,56 @@ module _ (b y : List ℕ) (c : Cursor) (first : ℕ) (y′ : List ℕ) (at count
       space : (k : Bool) → eqb (getD b end 0) 32 ≡ k → eqb (getD b end 0) 32 ≡ true
       space true e = e
       space false e = absurd (h (eqb-true (getD b end 0) 10 (rw e at (t .ended))))
+
+-- each number of a line takes two bytes at least
+following-long : (ns : List ℕ) → length ns + length ns + 1 ≤ length (following ns)
+unfolding following
+following-long [] = omega arith
+following-long (n ∷ ns) = rw length-append (omega (arith, following-long ns, numeral-some n))
+
+pub line-long : (ns : List ℕ) → (length ns + length ns ≤ length (line ns)) × (0 < length (line ns))
+unfolding line
+line-long [] = (omega arith, omega arith)
+line-long (n ∷ ns) =
+    let f = following-long ns in
+    let s = numeral-some n in
+    (rw length-append (omega arith), rw length-append (omega arith))
+
+module _ (b : List ℕ) (at : ℕ) where
+  pub line-end : (ns : List ℕ) (end : ℕ) → HasLine b at ns end → end ≡ at + length (line ns)
+  line-end ns end h =
+      let l = ap length (h .text) in
+      let m = line-long ns in
+      omega (arith, h .within, length-drop at b, length-append (line ns) (drop end b), length-drop end b)
+
+  -- a text that begins with a line has one
+  pub line-begins : (ns z : List ℕ) → Small ns → drop at b ≡ line ns ++ z → HasLine b at ns (at + length (line ns))
+  line-begins ns z small e =
+      let l = ap length e in
+      let m = line-long ns in
+      record {
+        small = small;
+        text = e ∙ ap (λ r. line ns ++ r) (sym (sym (drop-drop (length (line ns)) at b) ∙ ap (drop (length (line ns))) e ∙ drop-at (line ns) z (length (line ns)) refl));
+        within = omega (arith, length-drop at b, length-append (line ns) z);
+      }
+
+-- room for the next line's numbers
+pub room-next : {b : List ℕ} {c : Cursor} {y : List ℕ} {i k : ℕ} {d : Cursor} {y′ : List ℕ} → Room b c y i → LineRead b c y i k d y′
+    → Room b d y′ k × (k ≤ length y) × (length y′ ≡ length y)
+room-next {b} {c} {y} {i} {k} {d} {y′} r l =
+    let e = line-end b (c .at) (l .numbers) (d .at) (l .stands) in
+    let m = line-long (l .numbers) in
+    let w = l .stands .within in
+    let t = l .count in
+    let k₁ : i + i ≤ c .at = r .numbers in
+    let k₂ : length b ≤ length y + length y = r .buffer in
+    let s : i + length (l .numbers) ≤ length y = omega arith in
+    let z : length y′ ≡ length y = ap length (l .buffer) ∙ written-length y i (l .numbers) s in (
+      record {
+        numbers = omega arith;
+        buffer = omega arith;
+        lines = omega (arith, l .next, r .lines);
+      },
+      omega arith,
+      z,
+    )

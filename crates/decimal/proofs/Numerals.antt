@@ -131,3 +131,7 @@ numeral-fits (suc k) n h = go (ltb n 10) refl (λ l. numeral-fits k (n / 10) l)
     go false e r =
         let i = r (omega arith) in
         rw (numeral-more n (ltb-false n 10 e), length-append) (omega arith)
+
+-- a machine word has at most 20 digits
+pub numeral-word : (n : ℕ) → n < 2 ^ 64 → length (numeral n) ≤ 20
+numeral-word n h = numeral-fits 19 n (omega arith)

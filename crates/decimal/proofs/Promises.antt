@@ -82,7 +82,7 @@ number-alone n m ns ms y z e =
     let o = opens ns y in
     let p = opens ms z in
     let f : numeral n ++ (o .byte ∷ o .rest) ≡ numeral m ++ (p .byte ∷ p .rest)
-        = ap (λ l. numeral n ++ l) (sym (o .is)) ∙ sym (append-assoc (numeral n) (following ns) y) ∙ e ∙ append-assoc (numeral m) (following ms) z ∙ ap (λ l. numeral m ++ l) (p .is) in
+    = ap (λ l. numeral n ++ l) (sym (o .is)) ∙ sym (append-assoc (numeral n) (following ns) y) ∙ e ∙ append-assoc (numeral m) (following ms) z ∙ ap (λ l. numeral m ++ l) (p .is) in
     let q = numeral-alone n m (o .byte) (p .byte) (o .rest) (p .rest) (o .other) (p .other) f in
     (q .number, o .is ∙ ap (λ s. s ∷ o .rest) (q .byte) ∙ ap (λ l. p .byte ∷ l) (q .rest) ∙ sym (p .is))
 

@@ -30,7 +30,9 @@ unfolding written
 written-append b at u v h =
     let n : length (take at b ++ u) ≡ at + length u = length-append (take at b) u ∙ ap (λ k. k + length u) (length-take-le at b (omega arith)) in
     let s : take at b ++ (u ++ drop (at + length u) b) ≡ (take at b ++ u) ++ drop (at + length u) b = sym (append-assoc (take at b) u (drop (at + length u) b)) in
-    rw (s, take-at (take at b ++ u) (drop (at + length u) b) (at + length u) n, ← n, drop-append-add (take at b ++ u) (drop (length (take at b ++ u)) b) (length v), n, drop-drop (length v) (at + length u) b, length-append u v, add-assoc, append-assoc, append-assoc)
+    let t : (take at b ++ u) ++ (v ++ drop (at + (length u + length v)) b) ≡ take at b ++ ((u ++ v) ++ drop (at + (length u + length v)) b)
+    = append-assoc (take at b) u (v ++ drop (at + (length u + length v)) b) ∙ rw (append-assoc u v (drop (at + (length u + length v)) b)) in
+    rw (s, take-at (take at b ++ u) (drop (at + length u) b) (at + length u) n, ← n, drop-append-add (take at b ++ u) (drop (length (take at b ++ u)) b) (length v), n, drop-drop (length v) (at + length u) b, length-append u v, add-assoc at (length u) (length v)) t
 
 -- one number more
 pub written-snoc : (b : List ℕ) (at : ℕ) (v : List ℕ) (x : ℕ) → at + length v < length b
@@ -47,10 +49,15 @@ written-take b at v i h k =
     ∙ written-snoc b at (take i v) (getD v i 0) (omega arith)
     ∙ rw (add-one i, take-suc v i 0 h)
 
+-- nothing was printed yet
+pub printed-none : (b : List ℕ) (at : ℕ) → Printed b at [] at b
+printed-none b at = record { next = sym (add-zero at); buffer = sym (written-none b at) }
+
+-- a text was printed, and then another behind it
 pub printed-more : {b : List ℕ} {at : ℕ} {u : List ℕ} {m : ℕ} {b′ : List ℕ} {v : List ℕ} {r : ℕ} {b″ : List ℕ}
-    → at + length u ≤ length b → Printed b at u m b′ → Printed b′ m v r b″ → Printed b at (u ++ v) r b″
+    → m ≤ length b → Printed b at u m b′ → Printed b′ m v r b″ → Printed b at (u ++ v) r b″
 printed-more {b} {at} {u} {m} {b′} {v} {r} {b″} h p q =
     record {
       next = q .next ∙ rw (p .next, length-append, add-assoc);
-      buffer = q .buffer ∙ rw (p .next, p .buffer, written-append b at u v h);
+      buffer = q .buffer ∙ rw (p .next, p .buffer, written-append b at u v (omega (arith, p .next)));
     }

@@ -102,7 +102,13 @@ pub fn read_line(text: &[u8], from: Cursor, out: &mut [u16], first: usize) -> Li
     let mut at = from.at;
     let mut count = first;
     if byte_at(text, at) == 10 {
-        return Line::Numbers(count, Cursor { at: at + 1, line: line + 1 });
+        return Line::Numbers(
+            count,
+            Cursor {
+                at: at + 1,
+                line: line + 1,
+            },
+        );
     }
     loop {
         let Number::Value(value, next) = number_at(text, Cursor { at, line }) else {
@@ -141,7 +147,7 @@ pub fn put_bytes(out: &mut [u8], at: usize, bytes: &[u8]) -> usize
 }
 
 // A number into a buffer that has room for it: all digits but the last, then the last.
-pub fn put_number(out: &mut [u8], at: usize, n: usize) -> usize
+fn put_number(out: &mut [u8], at: usize, n: usize) -> usize
     requires { ⌜ at + length (numeral n) ≤ length (now out) ⌝ }
     ensures { λ r. ⌜ Printed (now (out .entry)) at (numeral n) r (now (out .exit)) ⌝ }
 {
@@ -150,4 +156,13 @@ pub fn put_number(out: &mut [u8], at: usize, n: usize) -> usize
     }
     let last = put_number(out, at, n / 10);
     put_byte(out, last, 48 + (n % 10) as u8)
+}
+
+// A mark and a number behind it, into a buffer with room for a mark and the longest number.
+pub fn put_marked(out: &mut [u8], at: usize, mark: u8, n: usize) -> usize
+    requires { ⌜ at + 21 ≤ length (now out) ⌝ }
+    ensures { λ r. ⌜ Printed (now (out .entry)) at (mark ∷ numeral n) r (now (out .exit)) × (r ≤ at + 21) ⌝ }
+{
+    let number = put_byte(out, at, mark);
+    put_number(out, number, n)
 }

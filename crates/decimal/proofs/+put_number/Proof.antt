@@ -125,7 +125,7 @@ put-number-returns-2 t c =
     let a = c .before .before .before .before .before .before .before .before .before .before .args in
     let l = c .before .before .before .before .before .before .before .before .if1 .left in
     rw (numeral-more (a .n) l)
-    (printed-more (omega (arith, c .before .before .before .before .before .before .before .before .before .before .pre .1, shorter (a .n) l)) (c .before .before .before .before .before .before .put-number .ensures) (c .before .before .put-byte2 .ensures))
+    (printed-more (omega (arith, c .before .before .before .before .before .before .before .before .before .before .pre .1, c .before .before .before .before .before .before .put-number .ensures .next, shorter (a .n) l)) (c .before .before .before .before .before .before .put-number .ensures) (c .before .before .put-byte2 .ensures))
 
 pub +put-number-spec : {M : Type 1} → statement M
 +put-number-spec = close μ-put-number λ t. put-number-lts.spec (

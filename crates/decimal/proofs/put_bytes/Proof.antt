@@ -38,12 +38,11 @@ loop-less c = search needs
 loop-again : tie.Need-loop-again Inv-loop μ-loop
 loop-again c =
     let a = c .before .before .before .args in
-    let l = c .before .before .loop in
-    (
+    let l = c .before .before .loop in (
       search needs,
       simp length-set (l .inv .1),
       ap (λ b. set b (a .at + l .i) (getD (a .bytes .now) (l .i) 0)) (l .inv .2)
-      ∙ written-take (a .out .now) (a .at) (a .bytes .now) (l .i) (c .before .loop-test .taken) (c .before .before .before .pre),
+          ∙ written-take (a .out .now) (a .at) (a .bytes .now) (l .i) (c .before .loop-test .taken) (c .before .before .before .pre),
     )
 
 add-result : tie.Need-add-result Inv-loop μ-loop

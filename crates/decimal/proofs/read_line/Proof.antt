@@ -61,8 +61,7 @@ returns-2 : tie.Need-returns-2 Inv-loop μ-loop
 returns-2 c =
     let a = c .before .before .before .before .before .before .before .before .args in
     let l = c .before .before .before .loop in
-    let none = (rw (c .enum-told .given .1) at (c .before .before .number-at .ensures)) .0 in
-    (
+    let none = (rw (c .enum-told .given .1) at (c .before .before .number-at .ensures)) .0 in (
       (λ ns end h. none-lines (a .text .now) (a .from .at) (l .at) (l .inv .numbers) ns end (l .inv .text) (λ e. c .before .before .before .before .if1 .left (c .before .before .before .before .before .byte-at .ensures ∙ e)) none h),
       refl,
     )

@@ -1,0 +1,45 @@
+-- `seek_text::print::print_count` meets its contract: the pieces stand one behind the other.
+-- Assumes nothing.
+use native.Mathlib.Omega.{arith}
+use Rattle.decimal.proofs.Writing.{printed-more}
+use Rattle.seek_text.specs.Print.{countText}
+use borrow.Author.Needs.{needs}
+use Rattle.seek_text.proofs.print.print_count.Statement.{statement}
+use Rattle.seek_text.proofs.print.print_count.Tie as tie
+
+slice-aggregate-put-bytes : tie.Need-slice-aggregate-put-bytes
+slice-aggregate-put-bytes c = search needs
+
+put-bytes-requires : tie.Need-put-bytes-requires
+put-bytes-requires c κs = search needs
+
+put-marked-requires : tie.Need-put-marked-requires
+put-marked-requires c κs = search needs
+
+put-byte-requires : tie.Need-put-byte-requires
+put-byte-requires c κs = search needs
+
+same-length : tie.Need-same-length
+same-length c = search needs
+
+returns : tie.Need-returns
+unfolding countText
+returns c =
+    let word = c .before .before .before .before .before .before .before .before .before .before .put-bytes .ensures in
+    let count = c .before .before .before .before .before .before .put-marked .ensures in
+    let newline = c .before .before .put-byte .ensures in (
+      printed-more (omega (arith, c .before .before .before .before .before .before .before .before .before .before .before .before .before .before .pre, word .next)) word
+          (printed-more (omega (arith, c .before .before .before .before .before .before .before .before .before .before .before .before .before .before .pre, word .next, c .before .before .before .before .before .before .before .before .before .before .put-bytes .kept .0, count .1)) (count .0) newline),
+      omega (arith, word .next, count .1, newline .next),
+    )
+
+pub print-count-spec : {M : Type 1} → statement M
+print-count-spec =
+    tie.close
+    (tie.spec
+    slice-aggregate-put-bytes
+    put-bytes-requires
+    put-marked-requires
+    put-byte-requires
+    same-length
+    returns)

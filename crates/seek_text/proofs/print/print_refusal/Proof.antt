@@ -1,0 +1,59 @@
+-- `seek_text::print::print_refusal` meets its contract: the pieces stand one behind the other.
+-- Assumes nothing.
+use native.Mathlib.Omega.{arith}
+use Rattle.decimal.proofs.Writing.{printed-more}
+use Rattle.seek_text.specs.Print.{refusalText}
+use borrow.Author.Needs.{needs}
+use Rattle.seek_text.proofs.print.print_refusal.Statement.{statement}
+use Rattle.seek_text.proofs.print.print_refusal.Tie as tie
+
+slice-aggregate-put-bytes : tie.Need-slice-aggregate-put-bytes
+slice-aggregate-put-bytes c = search needs
+
+put-bytes-requires : tie.Need-put-bytes-requires
+put-bytes-requires c κs = search needs
+
+number-of-requires : tie.Need-number-of-requires
+number-of-requires c κs = search needs
+
+put-marked-requires : tie.Need-put-marked-requires
+put-marked-requires c κs = search needs
+
+place-of-requires : tie.Need-place-of-requires
+place-of-requires c κs = search needs
+
+put-marked-requires-2 : tie.Need-put-marked-requires-2
+put-marked-requires-2 c κs = search needs
+
+put-byte-requires : tie.Need-put-byte-requires
+put-byte-requires c κs = search needs
+
+same-length : tie.Need-same-length
+same-length c = search needs
+
+returns : tie.Need-returns
+unfolding refusalText
+returns c =
+    let word = c .before .before .before .before .before .before .before .before .before .before .before .before .before .before .before .before .put-bytes .ensures in
+    let number = rw (c .before .before .before .before .before .before .before .before .before .before .before .before .number-of .ensures) at (c .before .before .before .before .before .before .before .before .before .before .before .put-marked .ensures) in
+    let place = rw (c .before .before .before .before .before .before .before .place-of .ensures) at (c .before .before .before .before .before .before .put-marked2 .ensures) in
+    let newline = c .before .before .put-byte .ensures in (
+      printed-more (omega (arith, c .before .before .before .before .before .before .before .before .before .before .before .before .before .before .before .before .before .before .before .before .pre, word .next)) word
+          (printed-more (omega (arith, c .before .before .before .before .before .before .before .before .before .before .before .before .before .before .before .before .before .before .before .before .pre, word .next, c .before .before .before .before .before .before .before .before .before .before .before .before .before .before .before .before .put-bytes .kept .0, number .1)) (number .0)
+          (printed-more (omega (arith, c .before .before .before .before .before .before .before .before .before .before .before .before .before .before .before .before .before .before .before .before .pre, word .next, c .before .before .before .before .before .before .before .before .before .before .before .before .before .before .before .before .put-bytes .kept .0, number .1, c .before .before .before .before .before .before .before .before .before .before .before .put-marked .kept .0, place .1)) (place .0) newline)),
+      omega (arith, word .next, number .1, place .1, newline .next),
+    )
+
+pub print-refusal-spec : {M : Type 1} → statement M
+print-refusal-spec =
+    tie.close
+    (tie.spec
+    slice-aggregate-put-bytes
+    put-bytes-requires
+    number-of-requires
+    put-marked-requires
+    place-of-requires
+    put-marked-requires-2
+    put-byte-requires
+    same-length
+    returns)

@@ -1,0 +1,64 @@
+// The answer as text.
+ghost use Prim.Native.Nat.{_+_, _≤_};
+ghost use lib.ListN.{length};
+ghost use Rattle.decimal.specs.Printed.{Printed};
+ghost use Rattle.seek_text.specs.Print.{refusalText, countText, spanText, spansText, matchText};
+use rows::Refusal;
+
+// `refused N P`, at the front of a buffer.
+pub fn print_refusal(out: &mut [u8], refusal: Refusal) -> usize
+    requires { ⌜ 64 ≤ length (now out) ⌝ }
+    ensures { λ r. ⌜ Printed (now (out .entry)) 0 (refusalText refusal) r (now (out .exit)) × (r ≤ 64) ⌝ }
+{
+    let number = decimal::put_bytes(out, 0, b"refused");
+    let place = decimal::put_marked(out, number, b' ', rows::number_of(refusal));
+    let end = decimal::put_marked(out, place, b' ', rows::place_of(refusal));
+    decimal::put_byte(out, end, b'\n')
+}
+
+// `matches K`, at the front of a buffer.
+pub fn print_count(out: &mut [u8], count: usize) -> usize
+    requires { ⌜ 64 ≤ length (now out) ⌝ }
+    ensures { λ r. ⌜ Printed (now (out .entry)) 0 (countText count) r (now (out .exit)) × (r ≤ 64) ⌝ }
+{
+    let number = decimal::put_bytes(out, 0, b"matches");
+    let end = decimal::put_marked(out, number, b' ', count);
+    decimal::put_byte(out, end, b'\n')
+}
+
+// ` V:B-E`, for a variable that the pattern has; nothing for one that it lacks.
+fn put_span(out: &mut [u8], at: usize, variable: usize, begin: u16, end: u16) -> usize
+    requires { ⌜ at + 63 ≤ length (now out) ⌝ }
+    ensures { λ r. ⌜ Printed (now (out .entry)) at (spanText variable begin end) r (now (out .exit)) × (r ≤ at + 63) ⌝ }
+{
+    if end == 0 {
+        return at;
+    }
+    let first = decimal::put_marked(out, at, b' ', variable);
+    let last = decimal::put_marked(out, first, b':', begin as usize);
+    decimal::put_marked(out, last, b'-', end as usize)
+}
+
+// The spans of the variables, rising.
+fn put_spans(out: &mut [u8], at: usize, spans: &[u16]) -> usize
+    requires { ⌜ (at + 1008 ≤ length (now out)) × (32 ≤ length (now spans)) ⌝ }
+    ensures { λ r. ⌜ Printed (now (out .entry)) at (spansText (now (spans .entry)) 16) r (now (out .exit)) × (r ≤ at + 1008) ⌝ }
+{
+    let mut end = at;
+    for v in 0..16usize {
+        end = put_span(out, end, v, spans[v + v], spans[v + v + 1]);
+    }
+    end
+}
+
+// `at P E` and the spans: the line of a match.
+pub fn put_match(out: &mut [u8], at: usize, position: usize, end: usize, spans: &[u16]) -> usize
+    requires { ⌜ (at + 1053 ≤ length (now out)) × (32 ≤ length (now spans)) ⌝ }
+    ensures { λ r. ⌜ Printed (now (out .entry)) at (matchText position end (now (spans .entry))) r (now (out .exit)) × (r ≤ at + 1053) ⌝ }
+{
+    let first = decimal::put_bytes(out, at, b"at");
+    let second = decimal::put_marked(out, first, b' ', position);
+    let variables = decimal::put_marked(out, second, b' ', end);
+    let last = put_spans(out, variables, spans);
+    decimal::put_byte(out, last, b'\n')
+}
