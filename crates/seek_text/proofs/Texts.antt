@@ -11,7 +11,7 @@ use Rattle.decimal.specs.Lines.{line, Small, HasLine, LineRead, Room}
 use Rattle.decimal.specs.declared.Cursor.{Cursor}
 use Rattle.decimal.proofs.Writing.{written-append}
 use Rattle.decimal.proofs.Lining.{line-begins, room-next}
-use Rattle.seek_text.specs.Input.{Says, NoLine, FaultyLine, FaultyLine.first, FaultyLine.second, FaultyLine.third, FaultyLine.fourth, Refuses, Refuses.faulty, ListsRead}
+use Rattle.seek_text.specs.Input.{Says, NoLine, Faulty, Faulty.here, Faulty.later, Faulty.extra, Refuses, Refuses.faulty, ListsRead}
 
 -- the first line's cursor
 abbrev pub top : Cursor
@@ -29,31 +29,37 @@ none-line b at h ns z small e = h ns _ (line-begins b at ns z small e)
 
 module _ (b y : List ℕ) (short : length b ≤ 65536) where
   pub refused-first : (k : ℕ) → None b 0 × (k ≡ 1) → Refuses b (refusal.Line k)
-  refused-first k h = rw (h .1) (faulty short (first (none-line b 0 (h .0))))
+  refused-first k h = rw (h .1) (faulty short (here (none-line b 0 (h .0))))
 
   module _ {a : ℕ} {d₁ : Cursor} {y₁ : List ℕ} (l₁ : LineRead b top y 0 a d₁ y₁) where
+    -- a fault behind the first line
+    after-first : {k : ℕ} → Faulty 2 2 (drop (d₁ .at) b) k → Refuses b (refusal.Line k)
+    after-first f = faulty short (later (l₁ .numbers) (drop (d₁ .at) b) (l₁ .stands .small) (l₁ .stands .text) f)
+
     pub refused-second : (k : ℕ) → None b (d₁ .at) × (k ≡ d₁ .line) → Refuses b (refusal.Line k)
     refused-second k h =
         let e : k ≡ 2 = h .1 ∙ l₁ .next in
-        rw e (faulty short (second (l₁ .numbers) (drop (d₁ .at) b) (l₁ .stands .small) (l₁ .stands .text) (none-line b (d₁ .at) (h .0))))
+        rw e (after-first (here (none-line b (d₁ .at) (h .0))))
 
     module _ {r : ℕ} {d₂ : Cursor} {y₂ : List ℕ} (l₂ : LineRead b d₁ y₁ a r d₂ y₂) where
-      two : b ≡ line (l₁ .numbers) ++ (line (l₂ .numbers) ++ drop (d₂ .at) b)
-      two = l₁ .stands .text ∙ ap (λ z. line (l₁ .numbers) ++ z) (l₂ .stands .text)
+      after-second : {k : ℕ} → Faulty 1 3 (drop (d₂ .at) b) k → Refuses b (refusal.Line k)
+      after-second f = after-first (later (l₂ .numbers) (drop (d₂ .at) b) (l₂ .stands .small) (l₂ .stands .text) f)
 
       pub refused-third : (k : ℕ) → None b (d₂ .at) × (k ≡ d₂ .line) → Refuses b (refusal.Line k)
       refused-third k h =
           let e : k ≡ 3 = h .1 ∙ l₂ .next ∙ ap (λ n. n + 1) (l₁ .next) in
-          rw e (faulty short (third (l₁ .numbers) (l₂ .numbers) (drop (d₂ .at) b) (l₁ .stands .small) (l₂ .stands .small) two (none-line b (d₂ .at) (h .0))))
+          rw e (after-second (here (none-line b (d₂ .at) (h .0))))
 
       module _ {p : ℕ} {d₃ : Cursor} {y₃ : List ℕ} (l₃ : LineRead b d₂ y₂ r p d₃ y₃) where
-        three : b ≡ line (l₁ .numbers) ++ (line (l₂ .numbers) ++ (line (l₃ .numbers) ++ drop (d₃ .at) b))
-        three = two ∙ ap (λ z. line (l₁ .numbers) ++ (line (l₂ .numbers) ++ z)) (l₃ .stands .text)
-
         pub refused-fourth : d₃ .at < length b → Refuses b (refusal.Line (d₃ .line))
         refused-fourth h =
             let e : d₃ .line ≡ 4 = l₃ .next ∙ ap (λ n. n + 1) (l₂ .next ∙ ap (λ n. n + 1) (l₁ .next)) in
-            rw e (faulty short (fourth (l₁ .numbers) (l₂ .numbers) (l₃ .numbers) (drop (d₃ .at) b) (l₁ .stands .small) (l₂ .stands .small) (l₃ .stands .small) three (rw length-drop (omega arith))))
+            rw e (after-second (later (l₃ .numbers) (drop (d₃ .at) b) (l₃ .stands .small) (l₃ .stands .text) (extra (rw length-drop (omega arith)))))
+
+        three : b ≡ line (l₁ .numbers) ++ (line (l₂ .numbers) ++ (line (l₃ .numbers) ++ drop (d₃ .at) b))
+        three =
+            l₁ .stands .text
+            ∙ ap (λ z. line (l₁ .numbers) ++ z) (l₂ .stands .text ∙ ap (λ z. line (l₂ .numbers) ++ z) (l₃ .stands .text))
 
         pub lists-read : 32768 ≤ length y → length b ≤ d₃ .at → ListsRead b y a r p y₃
         lists-read room h =

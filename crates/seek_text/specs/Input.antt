@@ -1,5 +1,5 @@
 -- What the input of `seek` says.
-use Prim.Native.Nat.{ℕ, _+_, _≤_, _<_}
+use Prim.Native.Nat.{ℕ, zero, suc, _+_, _≤_, _<_}
 use mathlib.Core.Path.{_≡_}
 use mathlib.Core.List.{List, [], _∷_, _++_}
 use lib.ListN.{length}
@@ -21,18 +21,17 @@ pub record Says (b A w q : List ℕ) : Type 0 where
 abbrev pub NoLine : List ℕ → Type 0
 NoLine b = (ns z : List ℕ) → Small ns → b ≡ line ns ++ z → ⊥
 
--- Line k of the text is the first that is faulty: faulty or missing if k is 1, 2 or 3; a fourth line is whatever follows
--- three lines of numbers.
-pub data FaultyLine (b : List ℕ) : ℕ → Type 0 where
-  first : NoLine b → FaultyLine b 1
-  second : (A z : List ℕ) → Small A → b ≡ line A ++ z → NoLine z → FaultyLine b 2
-  third : (A w z : List ℕ) → Small A → Small w → b ≡ line A ++ (line w ++ z) → NoLine z → FaultyLine b 3
-  fourth : (A w q z : List ℕ) → Small A → Small w → Small q → b ≡ line A ++ (line w ++ (line q ++ z)) → 0 < length z → FaultyLine b 4
+-- Line k is the first faulty one of a text that should be n lines of numbers, counted from i on: the first of them is not
+-- there; or it is, and the fault stands behind it; or all n are there, and something follows.
+pub data Faulty : ℕ → ℕ → List ℕ → ℕ → Type 0 where
+  here : {n i : ℕ} {b : List ℕ} → NoLine b → Faulty (suc n) i b i
+  later : {n i : ℕ} {b : List ℕ} {k : ℕ} (ns z : List ℕ) → Small ns → b ≡ line ns ++ z → Faulty n (i + 1) z k → Faulty (suc n) i b k
+  extra : {i : ℕ} {b : List ℕ} → 0 < length b → Faulty zero i b i
 
--- what the program refuses by itself: 61, over 65,536 bytes; then 60, a faulty line
+-- what the program refuses by itself: 61, over 65,536 bytes; then 60, a faulty, missing or fourth line
 pub data Refuses (b : List ℕ) : Refusal → Type 0 where
   long : 65536 < length b → Refuses b refusal.InputLong
-  faulty : {k : ℕ} → length b ≤ 65536 → FaultyLine b k → Refuses b (refusal.Line k)
+  faulty : {k : ℕ} → length b ≤ 65536 → Faulty 3 1 b k → Refuses b (refusal.Line k)
 
 -- the three lists of an input, one behind the other at the front of the buffer, and where each ends
 pub record ListsRead (b y : List ℕ) (a r p : ℕ) (y′ : List ℕ) : Type 0 where

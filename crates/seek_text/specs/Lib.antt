@@ -1,2 +1,3 @@
 pub mod Input
 pub mod Print
+pub mod Promises
