@@ -1,19 +1,26 @@
 -- The promises of specs/Promises, proved.
 -- Assumes nothing.
-use Prim.Native.Nat.{ℕ, zero, suc, _+_, _≤_, _<_}
+use Prim.Native.Nat.{ℕ, zero, suc, _+_, _-_, _≤_, _<_}
 use mathlib.Core.Path.{_≡_, refl, sym, ap, _∙_}
 use mathlib.Core.List.{List, [], _∷_, _++_, append-nil}
 use native.Mathlib.Omega.{arith}
-use lib.ListN.{length}
+use lib.ListN.{length, take, drop}
+use lib.Seq.{drop-length, drop-drop, length-take-le}
 use Rattle.rows.specs.Buffers.{written}
 use Rattle.rows.specs.declared.Refusal.{Refusal}
 use Rattle.rows.specs.declared.Refusal.the-variants as refusal
+use Rattle.rows.specs.declared.Check.the-variants as check
+use Rattle.patterns.specs.Answers.{Listed}
+use Rattle.patterns.proofs.Listing.{listed-once}
 use Rattle.decimal.specs.Lines.{line, Small}
 use Rattle.decimal.proofs.Promises.{one-line}
 use Rattle.seek_text.specs.Input.{Says, NoLine, Faulty, Faulty.here, Faulty.later, Faulty.extra, Refuses, Refuses.long, Refuses.faulty, ListsRead, InputRead}
 use Rattle.seek_text.specs.declared.input.Input.{Input}
 use Rattle.seek_text.specs.declared.input.Input.the-variants.{Lists, Refused}
-use Rattle.seek_text.specs.Promises.{Text-says, Input-accepted, Input-settled}
+use Rattle.seek_text.specs.Print.{refusalText, countText}
+use Rattle.seek_text.specs.Search.{seekCheck, linesText, Prints, Prints.input-refused, Prints.lists-refused, Prints.lists-searched, AnswerFound, PagePrinted, Pages, Pages.done, Pages.page}
+use Rattle.seek_text.specs.Promises.{Text-says, Input-accepted, Input-settled, Seek-settled, Pages-whole, Seek-prints}
+use Rattle.seek_text.proofs.Paging.{lines-split}
 
 module _ (n i : ℕ) (b ns z : List ℕ) (small : Small ns) (e : b ≡ line ns ++ z) where
   -- a fault of a text that begins with a line stands behind it
@@ -77,3 +84,52 @@ input-settled b y (Lists a e p) (Refused f) y′ y″ r s = absurd (says-short (
 input-settled b y (Refused f) (Lists a e p) y′ y″ r s = absurd (says-short (s .says) (s .short) r)
 input-settled b y (Refused f) (Refused g) y′ y″ r s =
     (ap Refused (one-refusal r s), λ a e p h. let z : _≡_ {A = ℕ} 0 1 = cc in absurd (omega arith))
+
+refused-once : (A w q A′ w′ q′ : List ℕ) (r r′ : Refusal) → A ≡ A′ → w ≡ w′ → q ≡ q′
+    → seekCheck A w q ≡ check.Refused r → seekCheck A′ w′ q′ ≡ check.Refused r′ → r ≡ r′
+refused-once A w q A′ w′ q′ r r′ a b c e f = cc
+
+never-both : (A w q A′ w′ q′ : List ℕ) (r : Refusal) → A ≡ A′ → w ≡ w′ → q ≡ q′
+    → seekCheck A w q ≡ check.Refused r → seekCheck A′ w′ q′ ≡ check.Fine → ⊥
+never-both A w q A′ w′ q′ r a b c e f = let z : _≡_ {A = ℕ} 0 1 = cc in omega arith
+
+pub seek-settled : Seek-settled
+seek-settled b o o′ (input-refused x) (input-refused y) = ap refusalText (one-refusal x y)
+seek-settled b o o′ (input-refused x) (lists-refused A w q h s e) = absurd (says-short s h x)
+seek-settled b o o′ (input-refused x) (lists-searched A w q ps h s e l) = absurd (says-short s h x)
+seek-settled b o o′ (lists-refused A w q h s e) (input-refused y) = absurd (says-short s h y)
+seek-settled b o o′ (lists-refused A w q h s e) (lists-refused A′ w′ q′ h′ s′ e′) =
+    let t = text-says b A w q A′ w′ q′ s s′ in
+    ap refusalText (refused-once A w q A′ w′ q′ _ _ (t .0) (t .1) (t .2) e e′)
+seek-settled b o o′ (lists-refused A w q h s e) (lists-searched A′ w′ q′ ps h′ s′ e′ l) =
+    let t = text-says b A w q A′ w′ q′ s s′ in
+    absurd (never-both A w q A′ w′ q′ _ (t .0) (t .1) (t .2) e e′)
+seek-settled b o o′ (lists-searched A w q ps h s e l) (input-refused y) = absurd (says-short s h y)
+seek-settled b o o′ (lists-searched A w q ps h s e l) (lists-refused A′ w′ q′ h′ s′ e′) =
+    let t = text-says b A′ w′ q′ A w q s′ s in
+    absurd (never-both A′ w′ q′ A w q _ (t .0) (t .1) (t .2) e′ e)
+seek-settled b o o′ (lists-searched A w q ps h s e l) (lists-searched A′ w′ q′ ps′ h′ s′ e′ l′) =
+    let t = text-says b A w q A′ w′ q′ s s′ in
+    let m : Listed A w q (length w) ps′ = rw (t .0, t .1, t .2) l′ in
+    let p : ps ≡ ps′ = listed-once A w q (length w) ps ps′ l m in
+    rw (t .0, t .1, t .2, p)
+
+-- pages from a match on are the lines from there on
+pages-from : (A w q ps : List ℕ) (first : ℕ) (z : List ℕ) → first ≤ length ps → Pages A w q ps first z → z ≡ linesText A w q (drop first ps)
+unfolding linesText
+pages-from A w q ps first z h done = rw (drop-length ps)
+pages-from A w q ps first z h (page {z = y} p b g f) =
+    let k : first + (p .next - first) ≡ p .next = omega (arith, g .on) in
+    let m : drop (p .next - first) (drop first ps) ≡ drop (p .next) ps = drop-drop (p .next - first) first ps ∙ ap (λ i. drop i ps) k in
+    rw (g .text, pages-from A w q ps (p .next) y (g .within) f, ← m) (sym (lines-split A w q (p .next - first) (drop first ps)))
+
+pub pages-whole : Pages-whole
+pages-whole A w q ps z f = pages-from A w q ps 0 z (omega arith) f
+
+pub seek-prints : Seek-prints
+seek-prints b a e p k n t y z f g =
+    let w = take (e - a) (drop a n) in
+    let q = take (p - e) (drop e n) in
+    let m : length (take k y) ≡ k = length-take-le k y (f .count) in
+    let x : Prints b (countText (length (take k y)) ++ linesText (f .arities) w q (take k y)) = lists-searched (f .arities) w q (take k y) (f .short) (f .says) (f .fine) (f .ready .listed) in
+    rw (pages-whole (f .arities) w q (take k y) z g) (rw m at x)

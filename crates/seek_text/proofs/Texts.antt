@@ -87,6 +87,7 @@ module _ (b y : List ℕ) (short : length b ≤ 65536) where
               arities-end = c₁;
               row-end = c₂;
               pattern-end = l₃ .count ∙ ap (λ n. n + length q) c₂;
+              within = omega (arith, room-next (r₂ .0) l₃ .1, r₂ .2, r₁ .2);
               buffer =
                   l₃ .buffer
                   ∙ ap (λ z. written z r q) (l₂ .buffer ∙ ap (λ z. written z a w) (l₁ .buffer) ∙ ap (λ n. written (written y 0 A) n w) (l₁ .count) ∙ written-append y 0 A w s₁)

@@ -43,6 +43,7 @@ pub record ListsRead (b y : List ℕ) (a r p : ℕ) (y′ : List ℕ) : Type 0 w
   pub arities-end : a ≡ length arities
   pub row-end : r ≡ length arities + length row
   pub pattern-end : p ≡ length arities + length row + length pattern
+  pub within : p ≤ length y
   pub buffer : y′ ≡ written y 0 (arities ++ (row ++ pattern))
 
 -- what reading an input into the buffer y answers, and what it leaves there (of no use after a refusal)

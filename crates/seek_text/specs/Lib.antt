@@ -1,3 +1,4 @@
 pub mod Input
 pub mod Print
+pub mod Search
 pub mod Promises

@@ -52,13 +52,13 @@ fn put_spans(out: &mut [u8], at: usize, spans: &[u16]) -> usize
 }
 
 // `at P E` and the spans: the line of a match.
-pub fn put_match(out: &mut [u8], at: usize, position: usize, end: usize, spans: &[u16]) -> usize
+pub fn put_match(out: &mut [u8], at: usize, position: u16, end: u16, spans: &[u16]) -> usize
     requires { ⌜ (at + 1053 ≤ length (now out)) × (32 ≤ length (now spans)) ⌝ }
     ensures { λ r. ⌜ Printed (now (out .entry)) at (matchText position end (now (spans .entry))) r (now (out .exit)) × (r ≤ at + 1053) ⌝ }
 {
     let first = decimal::put_bytes(out, at, b"at");
-    let second = decimal::put_marked(out, first, b' ', position);
-    let variables = decimal::put_marked(out, second, b' ', end);
+    let second = decimal::put_marked(out, first, b' ', position as usize);
+    let variables = decimal::put_marked(out, second, b' ', end as usize);
     let last = put_spans(out, variables, spans);
     decimal::put_byte(out, last, b'\n')
 }

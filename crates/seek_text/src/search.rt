@@ -1,0 +1,77 @@
+// The search: the row's table is built, and the matches are listed.
+ghost use Prim.Native.Nat.{_-_, _≤_};
+ghost use lib.ListN.{length, take, drop};
+ghost use Rattle.seek_text.specs.Search.{Searched, Answered};
+use crate::input::Input;
+use crate::input::read_input;
+use sparrowhem::Check;
+use sparrowhem::Found;
+use sparrowhem::Refusal;
+
+// The number of the matches, which stand at the front of `positions`, rising, with the row's table at the front of `table`;
+// or the first refusal.
+fn find_matches(
+    arities: &[u16],
+    row: &[u16],
+    pattern: &[u16],
+    table: &mut [u16],
+    positions: &mut [u16],
+) -> Found
+    requires { ⌜ (16384 ≤ length (now table)) × (16384 ≤ length (now positions)) ⌝ }
+    ensures { λ r. ⌜ Searched (now (arities .entry)) (now (row .entry)) (now (pattern .entry)) r (now (table .exit)) (now (positions .exit)) ⌝ }
+{
+    match sparrowhem::build(arities, row, table) {
+        Check::Refused(r) => Found::Refused(r),
+        Check::Fine => sparrowhem::find(arities, row, table, pattern, positions),
+    }
+}
+
+// The same for three lists that stand one behind the other, up to the places a, e and p.
+fn find_in(
+    numbers: &[u16],
+    a: usize,
+    e: usize,
+    p: usize,
+    table: &mut [u16],
+    positions: &mut [u16],
+) -> Found
+    requires { ⌜ (a ≤ e) × (e ≤ p) × (p ≤ length (now numbers)) × (16384 ≤ length (now table)) × (16384 ≤ length (now positions)) ⌝ }
+    ensures { λ r. ⌜ Searched (take a (now (numbers .entry))) (take (e - a) (drop a (now (numbers .entry)))) (take (p - e) (drop e (now (numbers .entry)))) r (now (table .exit)) (now (positions .exit)) ⌝ }
+{
+    find_matches(
+        &numbers[..a],
+        &numbers[a..e],
+        &numbers[e..p],
+        table,
+        positions,
+    )
+}
+
+// What `seek` answers: where arities, row and pattern end in the buffer that holds them, and the number of the matches; or
+// why it refuses.
+pub enum Answer {
+    Found(usize, usize, usize, usize),
+    Refused(Refusal),
+}
+
+// The answer to an input. The matches stand at the front of `positions`, the row's table at the front of `table`, and the
+// three lists at the front of `numbers`.
+pub fn answer_input(
+    input: &[u8],
+    numbers: &mut [u16],
+    table: &mut [u16],
+    positions: &mut [u16],
+) -> Answer
+    requires { ⌜ (32768 ≤ length (now numbers)) × (16384 ≤ length (now table)) × (16384 ≤ length (now positions)) ⌝ }
+    ensures { λ r. ⌜ Answered (now (input .entry)) r (now (numbers .exit)) (now (table .exit)) (now (positions .exit)) ⌝ }
+{
+    match read_input(input, numbers) {
+        Input::Refused(r) => Answer::Refused(r),
+        Input::Lists(a, e, p) => {
+            match find_in(numbers, a, e, p, table, positions) {
+                Found::Refused(r) => Answer::Refused(r),
+                Found::Matches(count) => Answer::Found(a, e, p, count),
+            }
+        }
+    }
+}
