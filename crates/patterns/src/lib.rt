@@ -7,8 +7,6 @@ ghost use Rattle.rows.specs.Buffers.{written};
 ghost use Rattle.rows.specs.Refusals.{pattern};
 ghost use Rattle.patterns.specs.Pattern.{leaf};
 ghost use Rattle.patterns.specs.Searches.{Checked, Searchable, Next, Counts, Lists, Room, Binds};
-ghost use Rattle.patterns.specs.Walk.{sameSymbol, sameFront, meets, steps, Ends, MarksIn, Done, markBegin, markEnd, markSpans};
-ghost use Rattle.patterns.specs.Answers.{Checked, Searchable, Next, Counts, Lists, Room, Binds};
 ghost use Rattle.patterns.specs.Walk.{sameSymbol, sameFront, meets, steps, Ends, MarksIn, Meetable, Done, markBegin, markEnd, markSpans};
 use rows::Check;
 use rows::Leaves;

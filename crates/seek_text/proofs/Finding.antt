@@ -22,7 +22,8 @@ use Rattle.rows.proofs.Buffers.{written-front}
 use Rattle.rows.proofs.Entry.{length-table}
 use Rattle.tables.proofs.Differ.{differs-same}
 use Rattle.tables.proofs.Given.{both-fine, sizes-fits}
-use Rattle.patterns.specs.Answers.{Checked, Listed}
+use Rattle.patterns.specs.Answers.{Listed}
+use Rattle.patterns.specs.Searches.{Checked}
 use Rattle.patterns.proofs.Listing.{listed-length}
 use Rattle.decimal.proofs.Writing.{written-length}
 use Rattle.sparrowhem.specs.Build.{buildCheck, Built}

@@ -15,7 +15,8 @@ use Rattle.rows.specs.Row.{pick}
 use Rattle.rows.specs.Parse.{table}
 use Rattle.rows.specs.Buffers.{written}
 use Rattle.rows.proofs.Buffers.{written-front}
-use Rattle.patterns.specs.Answers.{MatchesAt, Listed, Checked, Binds, isLeaf, span, spansBelow, spans}
+use Rattle.patterns.specs.Answers.{MatchesAt, Listed, isLeaf, span, spansBelow, spans}
+use Rattle.patterns.specs.Searches.{Checked, Binds}
 use Rattle.patterns.specs.Pattern.{leaf}
 use Rattle.decimal.specs.Printed.{Printed}
 use Rattle.decimal.proofs.Writing.{printed-none, printed-more}

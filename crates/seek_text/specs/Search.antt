@@ -9,7 +9,8 @@ use Rattle.rows.specs.Refusals.{_then_, asRow, alphabet, symbols, pattern}
 use Rattle.rows.specs.declared.Refusal.{Refusal}
 use Rattle.rows.specs.declared.Check.{Check}
 use Rattle.rows.specs.declared.Check.the-variants as check
-use Rattle.patterns.specs.Answers.{MatchesAt, Listed, Checked, spans}
+use Rattle.patterns.specs.Answers.{MatchesAt, Listed, spans}
+use Rattle.patterns.specs.Searches.{Checked}
 use Rattle.decimal.specs.Printed.{Printed}
 use Rattle.sparrowhem.specs.declared.search.Found.{Found as Matching}
 use Rattle.sparrowhem.specs.declared.search.Found.the-variants.{Matches, Refused}

@@ -2,7 +2,7 @@
 ghost use mathlib.Core.List.{List};
 ghost use Prim.Native.Nat.{ℕ, _+_, _≤_, _<_};
 ghost use lib.ListN.{length};
-ghost use Rattle.patterns.specs.Answers.{Searchable};
+ghost use Rattle.patterns.specs.Searches.{Searchable};
 ghost use Rattle.seek_text.specs.Search.{Ready, LinePrinted, PagePrinted};
 use crate::print::put_match;
 

@@ -25,7 +25,7 @@ use Rattle.rows.specs.declared.Check.the-variants.{Fine, Refused}
 use Rattle.rows.proofs.Entry.{entry-bounds}
 use Rattle.rows.proofs.Subtrees.{subtree-row}
 use Rattle.tables.proofs.Given.{both-fine, right-entry}
-use Rattle.patterns.specs.Answers.{Checked, Next}
+use Rattle.patterns.specs.Searches.{Checked, Next}
 use Rattle.sparrowhem.specs.Parts.{onRecord, ofRecord, newerCheck, FirstMatch, NoMatch, NewestSays}
 use Rattle.sparrowhem.specs.declared.parts.Newest.{Newest}
 use Rattle.sparrowhem.specs.declared.parts.Newest.the-variants.{Corrected, OnRecord as OnRecordAt, Nowhere, Refused as NewestRefused}

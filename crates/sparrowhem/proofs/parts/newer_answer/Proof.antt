@@ -3,7 +3,7 @@
 use mathlib.Core.Path.{_≡_, sym, _∙_}
 use native.Mathlib.Omega.{arith}
 use Rattle.rows.specs.declared.Check.the-variants.{Fine}
-use Rattle.patterns.specs.Answers.{Checked}
+use Rattle.patterns.specs.Searches.{Checked}
 use Rattle.sparrowhem.specs.Parts.{newerCheck}
 use Rattle.sparrowhem.proofs.Preferring.{newer-checked, first-match, no-match}
 use borrow.Author.Needs.{needs}
