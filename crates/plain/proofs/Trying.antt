@@ -8,7 +8,7 @@ use native.Mathlib.Nat.{add-zero}
 use native.Mathlib.Omega.{arith}
 use borrow.Author.Tests.{eqb-true}
 use lib.Dec.{eqb}
-use lib.ListN.{length, getD, take, drop, set, length-drop, List·getD-eq-default}
+use lib.ListN.{length, getD, drop, set, length-drop, List·getD-eq-default}
 use lib.Seq.{getD-drop, drop-drop}
 use Rattle.rows.specs.Tree.{size}
 use Rattle.rows.specs.Parse.{first, parse, table}
@@ -17,13 +17,13 @@ use Rattle.rows.specs.declared.Leaves.the-variants.{Blanks}
 use Rattle.rows.proofs.Behind.{behind}
 use Rattle.rows.proofs.Entry.{entry-first}
 use Rattle.patterns.specs.Pattern.{leaf}
-use Rattle.patterns.specs.Walk.{sameSymbol, sameFront, agreeing, Outcome, Outcome.misses, Outcome.reaches, meets, steps, onward, walk, MarksIn, Meetable, Done}
+use Rattle.patterns.specs.Walk.{sameSymbol, agreeing, Outcome, Outcome.misses, Outcome.reaches, meets, steps, onward, walk, MarksIn, Meetable, Done}
 use Rattle.patterns.specs.declared.Leaf.the-variants.{Plain, Blank, Variable}
 use Rattle.patterns.specs.declared.Stepped.{Stepped}
 use Rattle.patterns.specs.declared.Stepped.the-variants.{To, Miss}
 use Rattle.patterns.proofs.Leaves.{Kind, kind}
 use Rattle.patterns.proofs.Marks.{marks-wider, marks-set}
-use Rattle.patterns.proofs.Steps.{answers, meets-first, meets-same, meets-other, steps-same, steps-plain, steps-blank, steps-variable}
+use Rattle.patterns.proofs.Steps.{steps-same, steps-plain, steps-blank, steps-variable}
 use Rattle.plain.specs.Plain.{starts, Spells, Lent, Passes, Tells}
 use Rattle.plain.specs.declared.Tried.{Tried}
 use Rattle.plain.specs.declared.Tried.the-variants.{Past, Miss as Missed}

@@ -1,6 +1,6 @@
 -- What the plain matcher's functions ask for and tell. They go the way of `walk` over the part of a row from the position
 -- on, whose places count from there, with the ends that the part's own trees have.
-use Prim.Native.Nat.{ℕ, _+_, _-_, _≤_, _<_}
+use Prim.Native.Nat.{ℕ, _+_, _-_, _≤_}
 use mathlib.Core.Path.{_≡_}
 use mathlib.Core.List.{List}
 use mathlib.Core.Bool.{Bool}

@@ -24,6 +24,10 @@ use Rattle.tables.proofs.Given.{both-fine, given-right}
 use Rattle.sparrowhem.specs.Parts.{subtreeCheck, subtreePart, subtreeAnswer, placed}
 use Rattle.sparrowhem.specs.declared.parts.Placed.the-variants.{Span, Unplaced}
 
+-- a check that is fine does not refuse
+pub clash : (c : Check) (y : Refusal) → c ≡ Fine → c ≡ Refused y → ⊥
+clash c y f r = let z : _≡_ {A = ℕ} 0 1 = cc in omega arith
+
 pub position-fine : (n p : ℕ) → position n p ≡ Fine → p < n
 unfolding position
 position-fine n p e = go (ltb p n) refl e

@@ -30,6 +30,7 @@ use Rattle.sparrowhem.specs.Parts.{onRecord, ofRecord, newerCheck, First
 use Rattle.sparrowhem.specs.declared.parts.Newest.{Newest}
 use Rattle.sparrowhem.specs.declared.parts.Newest.the-variants.{Corrected, OnRecord as OnRecordAt, Nowhere, Refused as NewestRefused}
 use Rattle.sparrowhem.specs.Search.{searchCheck}
+use Rattle.sparrowhem.proofs.Handing.{clash}
 use Rattle.sparrowhem.proofs.Searching.{search-checked}
 
 record-fine : (c : Check) → ofRecord c ≡ Fine → c ≡ Fine
@@ -84,9 +85,6 @@ first-once A w q p e p′ e′ f g = (same, f .end ∙ ap (λ (n : ℕ). getD (t
 
 some-match : {A w q : List ℕ} {p e : ℕ} → FirstMatch A w q p e → NoMatch A w q → ⊥
 some-match f n = n _ (f .within) (f .here)
-
-clash : (c : Check) (y : Refusal) → c ≡ Fine → c ≡ Refused y → ⊥
-clash c y f r = let z : _≡_ {A = ℕ} 0 1 = cc in omega arith
 
 module _ (A w t v u q : List ℕ) where
   abbrev Says : Newest → Type 0
