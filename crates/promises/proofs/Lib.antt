@@ -1,4 +1,6 @@
 pub mod Holding
 pub mod Spanning
 pub mod Calls
+pub mod Agreeing
+pub mod Plain
 pub mod Edits

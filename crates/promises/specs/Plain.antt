@@ -1,4 +1,4 @@
--- The promises on the plain matcher, in document 01's words. Each is proved in proofs/PlainPromises, under the same name in
+-- The promises on the plain matcher, in document 01's words. Each is proved in proofs/Plain, under the same name in
 -- small letters.
 use Prim.Native.Nat.{ℕ, _≤_}
 use mathlib.Core.Path.{_≡_}

@@ -4,9 +4,3 @@ pub mod Preferring
 pub mod Replacing
 pub mod Searching
 pub mod Trying
-pub mod Holding
-pub mod Spanning
-pub mod EditPromises
-pub mod Agreeing
-pub mod PlainPromises
-pub mod Promises

@@ -1,4 +1,4 @@
--- The promises of specs/PlainPromises, each with its proof.
+-- The promises of specs/Plain, each with its proof.
 -- Assumes nothing.
 use Prim.Native.Nat.{ℕ}
 use mathlib.Core.Path.{_≡_, refl, sym, ap, _∙_, subst}
@@ -16,17 +16,17 @@ use Rattle.rows.specs.declared.Refusal.the-variants.{Position, OutputShort}
 use Rattle.rows.specs.declared.Check.{Check}
 use Rattle.rows.specs.declared.Check.the-variants.{Fine, Refused}
 use Rattle.tables.proofs.Given.{both-fine}
 use Rattle.sparrowhem.specs.Plain.{rowCheck, plainCheck, PlainSays}
-use Rattle.sparrowhem.specs.PlainPromises.{Plain-settled, Plain-yes, Both, Plain-finds, Shared, Plain-refuses}
+use Rattle.promises.specs.Plain.{Plain-settled, Plain-yes, Both, Plain-finds, Shared, Plain-refuses}
 use Rattle.sparrowhem.specs.Search.{searchCheck, output, findCheck, found, Finds}
 use Rattle.sparrowhem.specs.declared.matcher.Fits.{Fits}
 use Rattle.sparrowhem.specs.declared.matcher.Fits.the-variants.{Yes, No, Refused as PlainRefused}
 use Rattle.sparrowhem.specs.declared.search.Found.{Found}
 use Rattle.sparrowhem.specs.declared.search.Found.the-variants.{Matches, Refused as FindRefused}
 use Rattle.sparrowhem.proofs.Handing.{clash, position-fine}
 use Rattle.sparrowhem.proofs.Searching.{finds-matches}
-use Rattle.sparrowhem.proofs.Agreeing.{search-left, plain-left}
+use Rattle.promises.proofs.Agreeing.{search-left, plain-left}
 use Rattle.sparrowhem.proofs.Promises.{find-lists}
 
 pub plain-settled : Plain-settled
 plain-settled A w q p Yes Yes h k = refl
