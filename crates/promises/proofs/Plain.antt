@@ -26,7 +26,7 @@ use Rattle.sparrowhem.specs.declared.search.Found.the-variants.{Matches, Refuse
 use Rattle.sparrowhem.proofs.Handing.{clash, position-fine}
 use Rattle.sparrowhem.proofs.Searching.{finds-matches}
 use Rattle.promises.proofs.Agreeing.{search-left, plain-left}
-use Rattle.sparrowhem.proofs.Promises.{find-lists}
+use Rattle.promises.proofs.Calls.{find-lists}
 
 pub plain-settled : Plain-settled
 plain-settled A w q p Yes Yes h k = refl

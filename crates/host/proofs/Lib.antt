@@ -1,0 +1,6 @@
+pub mod Crossing
+pub mod Checks
+pub mod Cut
+pub mod Copying
+pub mod Found
+pub mod Editing
