@@ -10,6 +10,7 @@ fn main() {
     building::limits();
     handing::subtrees();
     searching::worked();
+    searching::variables();
     searching::traps();
     searching::refusals();
     searching::rooms();

@@ -41,107 +41,142 @@ fn bound(
     list(out);
 }
 
+// The same in alphabet A and row T of document 01.
+fn found_in_t(pattern: &[u16], out: &mut [u16]) {
+    found(
+        &[0u16, 0, 1, 2, 3],
+        &[4u16, 3, 0, 0, 2, 1, 3, 0, 0],
+        &[9u16, 4, 3, 4, 6, 6, 9, 8, 9],
+        pattern,
+        out,
+    );
+}
+
+fn bound_in_t(pattern: &[u16], position: usize, out: &mut [u16]) {
+    bound(
+        &[0u16, 0, 1, 2, 3],
+        &[4u16, 3, 0, 0, 2, 1, 3, 0, 0],
+        &[9u16, 4, 3, 4, 6, 6, 9, 8, 9],
+        pattern,
+        position,
+        out,
+    );
+}
+
 pub fn worked() {
-    let a: [u16; 5] = [0, 0, 1, 2, 3];
-    let t: [u16; 9] = [4, 3, 0, 0, 2, 1, 3, 0, 0];
-    let ends: [u16; 9] = [9, 4, 3, 4, 6, 6, 9, 8, 9];
     title(b"find in T: 3 X0 X0; 4 X0 S X0; 4 X0 X0 S; S; X0");
     let mut ten = [7u16; 10];
-    found(&a, &t, &ends, &[3u16, 65280, 65280], &mut ten);
-    found(&a, &t, &ends, &[4u16, 65280, 65535, 65280], &mut ten);
-    found(&a, &t, &ends, &[4u16, 65280, 65280, 65535], &mut ten);
-    found(&a, &t, &ends, &[65535u16], &mut ten);
-    found(&a, &t, &ends, &[65280u16], &mut ten);
+    found_in_t(&[3u16, 65280, 65280], &mut ten);
+    found_in_t(&[4u16, 65280, 65535, 65280], &mut ten);
+    found_in_t(&[4u16, 65280, 65280, 65535], &mut ten);
+    found_in_t(&[65535u16], &mut ten);
+    found_in_t(&[65280u16], &mut ten);
+}
+
+pub fn variables() {
     title(b"variables in T: 4 X0 S X0 at 0; X0 at 0; X15 at 4; 3 X0 X1 at 6, not at 4; S at 8");
     let mut spans = [7u16; 33];
-    bound(&a, &t, &ends, &[4u16, 65280, 65535, 65280], 0, &mut spans);
-    bound(&a, &t, &ends, &[65280u16], 0, &mut spans);
-    bound(&a, &t, &ends, &[65295u16], 4, &mut spans);
-    bound(&a, &t, &ends, &[3u16, 65280, 65281], 6, &mut spans);
-    bound(&a, &t, &ends, &[3u16, 65280, 65281], 4, &mut spans);
-    bound(&a, &t, &ends, &[65535u16], 8, &mut spans);
+    bound_in_t(&[4u16, 65280, 65535, 65280], 0, &mut spans);
+    bound_in_t(&[65280u16], 0, &mut spans);
+    bound_in_t(&[65295u16], 4, &mut spans);
+    bound_in_t(&[3u16, 65280, 65281], 6, &mut spans);
+    bound_in_t(&[3u16, 65280, 65281], 4, &mut spans);
+    bound_in_t(&[65535u16], 8, &mut spans);
 }
 
 pub fn traps() {
-    let a: [u16; 5] = [0, 0, 1, 2, 3];
     let mut three = [7u16; 3];
     title(b"find: two S are two trees, two X0 are one");
-    let pair: [u16; 3] = [3, 0, 1];
-    let pair_ends: [u16; 3] = [3, 2, 3];
-    found(&a, &pair, &pair_ends, &[3u16, 65535, 65535], &mut three);
-    found(&a, &pair, &pair_ends, &[3u16, 65280, 65280], &mut three);
-    title(b"find: subtrees of one length and one root, which differ");
-    let near: [u16; 8] = [4, 3, 0, 0, 0, 3, 0, 1];
-    let near_ends: [u16; 8] = [8, 4, 3, 4, 5, 8, 7, 8];
     found(
-        &a,
-        &near,
-        &near_ends,
+        &[0u16, 0, 1, 2, 3],
+        &[3u16, 0, 1],
+        &[3u16, 2, 3],
+        &[3u16, 65535, 65535],
+        &mut three,
+    );
+    found(
+        &[0u16, 0, 1, 2, 3],
+        &[3u16, 0, 1],
+        &[3u16, 2, 3],
+        &[3u16, 65280, 65280],
+        &mut three,
+    );
+    title(b"find: subtrees of one length and one root, which differ");
+    found(
+        &[0u16, 0, 1, 2, 3],
+        &[4u16, 3, 0, 0, 0, 3, 0, 1],
+        &[8u16, 4, 3, 4, 5, 8, 7, 8],
         &[4u16, 65280, 65535, 65280],
         &mut three,
     );
     title(b"find: S skips one subtree, so that 2 1 stands behind it");
-    let t: [u16; 9] = [4, 3, 0, 0, 2, 1, 3, 0, 0];
-    let ends: [u16; 9] = [9, 4, 3, 4, 6, 6, 9, 8, 9];
-    found(&a, &t, &ends, &[4u16, 65535, 2, 1, 65535], &mut three);
-    found(&a, &t, &ends, &[4u16, 65535, 65535, 2, 1], &mut three);
+    found_in_t(&[4u16, 65535, 2, 1, 65535], &mut three);
+    found_in_t(&[4u16, 65535, 65535, 2, 1], &mut three);
     title(b"find: matches nest");
-    let chain: [u16; 4] = [2, 2, 2, 0];
-    let chain_ends: [u16; 4] = [4, 4, 4, 4];
-    found(&a, &chain, &chain_ends, &[2u16, 65535], &mut three);
-    found(&a, &chain, &chain_ends, &[2u16, 2, 65280], &mut three);
+    found(
+        &[0u16, 0, 1, 2, 3],
+        &[2u16, 2, 2, 0],
+        &[4u16, 4, 4, 4],
+        &[2u16, 65535],
+        &mut three,
+    );
+    found(
+        &[0u16, 0, 1, 2, 3],
+        &[2u16, 2, 2, 0],
+        &[4u16, 4, 4, 4],
+        &[2u16, 2, 65280],
+        &mut three,
+    );
 }
 
 pub fn refusals() {
-    let a: [u16; 5] = [0, 0, 1, 2, 3];
-    let t: [u16; 9] = [4, 3, 0, 0, 2, 1, 3, 0, 0];
-    let ends: [u16; 9] = [9, 4, 3, 4, 6, 6, 9, 8, 9];
     let empty: [u16; 1] = [7];
     let mut two = [7u16; 2];
     title(b"find: patterns that are no tree's, and numbers that may not stand in one");
-    found(&a, &t, &ends, &empty[0..0], &mut two);
-    found(&a, &t, &ends, &[3u16, 65280], &mut two);
-    found(&a, &t, &ends, &[65280u16, 0], &mut two);
-    found(&a, &t, &ends, &[3u16, 5, 0], &mut two);
-    found(&a, &t, &ends, &[65279u16], &mut two);
-    found(&a, &t, &ends, &[65296u16], &mut two);
-    found(&a, &t, &ends, &[65534u16], &mut two);
+    found_in_t(&empty[0..0], &mut two);
+    found_in_t(&[3u16, 65280], &mut two);
+    found_in_t(&[65280u16, 0], &mut two);
+    found_in_t(&[3u16, 5, 0], &mut two);
+    found_in_t(&[65279u16], &mut two);
+    found_in_t(&[65296u16], &mut two);
+    found_in_t(&[65534u16], &mut two);
     title(b"find: a stale entry that the search would never read, before an empty pattern");
-    let last: [u16; 9] = [9, 4, 3, 4, 6, 6, 9, 8, 8];
-    found(&a, &t, &last, &empty[0..0], &mut two);
+    found(
+        &[0u16, 0, 1, 2, 3],
+        &[3u16, 0, 1],
+        &[3u16, 2, 2],
+        &empty[0..0],
+        &mut two,
+    );
 }
 
 pub fn rooms() {
-    let a: [u16; 5] = [0, 0, 1, 2, 3];
-    let t: [u16; 9] = [4, 3, 0, 0, 2, 1, 3, 0, 0];
-    let ends: [u16; 9] = [9, 4, 3, 4, 6, 6, 9, 8, 9];
     title(b"find: just room, one place short; all of T, and nothing, in no place");
     let mut two = [7u16; 2];
-    found(&a, &t, &ends, &[3u16, 65280, 65280], &mut two);
+    found_in_t(&[3u16, 65280, 65280], &mut two);
     let mut one = [7u16; 1];
-    found(&a, &t, &ends, &[3u16, 65280, 65280], &mut one);
-    found(&a, &t, &ends, &[65535u16], &mut one[0..0]);
+    found_in_t(&[3u16, 65280, 65280], &mut one);
+    found_in_t(&[65535u16], &mut one[0..0]);
     let mut other = [7u16; 1];
-    found(&a, &t, &ends, &[2u16, 0], &mut other[0..0]);
+    found_in_t(&[2u16, 0], &mut other[0..0]);
     title(b"variables: 17 before 19; 19 with 31 places, matched or not; 32 are enough");
     let mut few = [7u16; 31];
-    bound(&a, &t, &ends, &[65280u16], 9, &mut two);
-    bound(&a, &t, &ends, &[65280u16], 65536, &mut few);
-    bound(&a, &t, &ends, &[65280u16], 8, &mut few);
-    bound(&a, &t, &ends, &[3u16, 65280, 65280], 0, &mut few);
+    bound_in_t(&[65280u16], 9, &mut few);
+    bound_in_t(&[65280u16], 65536, &mut few);
+    bound_in_t(&[65280u16], 8, &mut few);
+    bound_in_t(&[3u16, 65280, 65280], 0, &mut few);
     let mut spans = [7u16; 32];
-    bound(&a, &t, &ends, &[65280u16], 8, &mut spans);
+    bound_in_t(&[65280u16], 8, &mut spans);
 }
 
 pub fn lengths() {
     title(b"find: patterns of 256 and 257 numbers");
-    let a: [u16; 2] = [0, 1];
     let mut pattern = [1u16; 257];
     pattern[255] = 65280;
     let mut row = [1u16; 256];
     row[255] = 0;
     let table = [256u16; 256];
     let mut two = [7u16; 2];
-    found(&a, &row, &table, &pattern[0..256], &mut two);
-    found(&a, &row, &table, &pattern, &mut two);
+    found(&[0u16, 1], &row, &table, &pattern[0..256], &mut two);
+    found(&[0u16, 1], &row, &table, &pattern, &mut two);
 }
