@@ -40,7 +40,10 @@ fn node(
     let kind = patterns::leaf_of(s);
     match kind {
         Leaf::Plain => Tried::Miss(at),
-        Leaf::Blank => Tried::Past(1, tables::tree_length(arities, rest)),
+        Leaf::Blank => {
+            let n = tables::tree_length(arities, rest);
+            Tried::Past(1, n)
+        }
         Leaf::Variable(i) => {
             let n = tables::tree_length(arities, rest);
             let met = patterns::meet(part, i, at, at + n, marks);

@@ -211,11 +211,11 @@ module _ (t : ℕ) where
       (misses-inside _ _ _ _ _ (s .pre .1) (sym (a .before .before .same .ensures) ∙ a .before .if1 .taken) _ (a .arity-of .ensures) _
       (c .before .before .children .ensures .miss _ (c .enum-told .given .1)))
 
-  node-add-t22 : node-lts.Need-add-t22 node-calls node-at node.Post
-  node-add-t22 c = omega (arith, taken (inside-passes (c .before)) .0, c .before .before .before .before .before .before .before .before .before .before .before .before .before .before .before .before .good)
+  node-add-t23 : node-lts.Need-add-t23 node-calls node-at node.Post
+  node-add-t23 c = omega (arith, taken (inside-passes (c .before)) .0, c .before .before .before .before .before .before .before .before .before .before .before .before .before .before .before .before .good)
 
-  node-add-t26 : node-lts.Need-add-t26 node-calls node-at node.Post
-  node-add-t26 c = omega (arith, taken (inside-passes (c .before)) .1, c .before .before .before .before .before .before .before .before .before .before .before .before .before .before .before .before .good)
+  node-add-t27 : node-lts.Need-add-t27 node-calls node-at node.Post
+  node-add-t27 c = omega (arith, taken (inside-passes (c .before)) .1, c .before .before .before .before .before .before .before .before .before .before .before .before .before .before .before .before .good)
 
   node-returns-2 : node-lts.Need-returns-2 node-calls node-at node.Post
   node-returns-2 c = tells-past (inside-passes (c .before))
@@ -319,8 +319,8 @@ pub +children+node-spec : {M : Type 1} → statement M
     (node-enum-known-found t)
     (node-enum-told t)
     (node-returns t)
-    (node-add-t22 t)
-    (node-add-t26 t)
+    (node-add-t23 t)
+    (node-add-t27 t)
     (node-returns-2 t)
     (node-sub-at t)
     (node-leaf-of-requires t)
