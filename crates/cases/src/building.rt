@@ -9,7 +9,13 @@ fn table_of(arities: &[u16], row: &[u16], table: &mut [u16]) {
     list(table);
 }
 
-pub fn small() {
+// The same for a table of three places.
+fn three(arities: &[u16], row: &[u16]) {
+    let mut table = [7u16; 3];
+    table_of(arities, row, &mut table);
+}
+
+pub fn worked() {
     let a: [u16; 5] = [0, 0, 1, 2, 3];
     let t: [u16; 9] = [4, 3, 0, 0, 2, 1, 3, 0, 0];
     title(b"build: the table of T, with just room, with one place more, with one short");
@@ -19,43 +25,59 @@ pub fn small() {
     table_of(&a, &t, &mut ten);
     let mut eight = [7u16; 8];
     table_of(&a, &t, &mut eight);
-    title(b"build: rows that are no tree's");
-    let mut three = [7u16; 3];
-    table_of(&a, &[3u16, 0], &mut three);
-    table_of(&a, &[0u16, 0], &mut three);
-    table_of(&a, &[0u16, 9], &mut three);
-    table_of(&a, &[3u16, 9, 0], &mut three);
-    table_of(&a, &[9u16, 0], &mut three);
-    table_of(&a, &[3u16, 0, 9], &mut three);
-    table_of(&a, &[65535u16], &mut three);
-    table_of(&a, &[65280u16], &mut three);
-    title(b"build: alphabets, and which refusal is first");
-    table_of(&[1u16], &[0u16], &mut three);
-    table_of(&[0u16, 16], &[0u16], &mut three);
-    table_of(&[1u16, 16], &[0u16], &mut three);
-    table_of(&[0u16, 15], &[0u16], &mut three);
-    table_of(&a[0..0], &t, &mut three);
-    table_of(&a, &t[0..0], &mut three);
-    table_of(&a, &t, &mut three);
 }
 
-pub fn limits() {
-    title(b"build: 16,384 symbols and 16,385; 1,024 in the alphabet and 1,025");
-    let a: [u16; 2] = [0, 1];
-    let mut longest = [1u16; 16384];
-    longest[16383] = 0;
+pub fn no_trees() {
+    let a: [u16; 5] = [0, 0, 1, 2, 3];
+    title(b"build: rows that are no tree's");
+    three(&a, &[3u16, 0]);
+    three(&a, &[0u16, 0]);
+    three(&a, &[0u16, 9]);
+    three(&a, &[3u16, 9, 0]);
+    three(&a, &[9u16, 0]);
+    three(&a, &[3u16, 0, 9]);
+    three(&a, &[65535u16]);
+    three(&a, &[65280u16]);
+}
+
+pub fn alphabets() {
+    let a: [u16; 5] = [0, 0, 1, 2, 3];
+    title(b"build: alphabets, and which refusal is first");
+    three(&[1u16], &[0u16]);
+    three(&[0u16, 16], &[0u16]);
+    three(&[1u16, 16], &[0u16]);
+    three(&[0u16, 15], &[0u16]);
+    three(&a[0..0], &[0u16]);
+    three(&[0u16], &a[0..0]);
+    three(&[0u16, 3], &[1u16, 0, 0, 0]);
+}
+
+// The answer alone, for a table with room for the longest row.
+fn longest(arities: &[u16], row: &[u16]) {
     let mut table = [0u16; 16384];
-    check(sparrowhem::build(&a, &longest, &mut table));
-    list(&table[0..3]);
-    list(&table[16381..16384]);
-    let mut short = [0u16; 16383];
-    check(sparrowhem::build(&a, &longest, &mut short));
-    let over = [9u16; 16385];
-    check(sparrowhem::build(&a, &over, &mut table));
-    check(sparrowhem::build(&a, &over, &mut short));
-    let most = [0u16; 1024];
-    check(sparrowhem::build(&most, &[1023u16], &mut table));
-    check(sparrowhem::build(&most, &[1024u16], &mut table));
-    let many = [16u16; 1025];
-    check(sparrowhem::build(&many, &[0u16], &mut table));
+    check(sparrowhem::build(arities, row, &mut table));
+}
+
+// The same for a table that has one place less.
+fn one_short(arities: &[u16], row: &[u16]) {
+    let mut table = [0u16; 16383];
+    check(sparrowhem::build(arities, row, &mut table));
+}
+
+pub fn rows() {
+    title(b"build: 16,384 symbols and 16,385, with room for 16,384 and for one less");
+    let mut row = [1u16; 16385];
+    row[16383] = 0;
+    longest(&[0u16, 1], &row[0..16384]);
+    one_short(&[0u16, 1], &row[0..16384]);
+    longest(&[0u16, 1], &row);
+    one_short(&[0u16, 1], &row);
+}
+
+pub fn symbols() {
+    title(b"build: 1,024 symbols in the alphabet and 1,025");
+    let arities = [0u16; 1025];
+    longest(&arities[0..1024], &[1023u16]);
+    longest(&arities[0..1024], &[1024u16]);
+    longest(&arities, &[0u16]);
 }

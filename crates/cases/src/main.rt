@@ -3,16 +3,40 @@
 mod building;
 mod handing;
 mod printing;
+mod replacing;
 mod searching;
 
-fn main() {
-    building::small();
-    building::limits();
-    handing::subtrees();
+fn builds() {
+    building::worked();
+    building::no_trees();
+    building::alphabets();
+    building::rows();
+    building::symbols();
+}
+
+fn searches() {
     searching::worked();
-    searching::variables();
     searching::traps();
+    searching::nested();
     searching::refusals();
     searching::rooms();
     searching::lengths();
+    searching::variables();
+    searching::short_spans();
+}
+
+fn replacements() {
+    replacing::worked();
+    replacing::back();
+    replacing::rooms();
+    replacing::lengths();
+    replacing::refusals();
+    replacing::limits();
+}
+
+fn main() {
+    builds();
+    handing::subtrees();
+    searches();
+    replacements();
 }
