@@ -1,22 +1,22 @@
 -- A line at a position of a text, number by number: when it stands there, and when none does.
 -- Assumes nothing.
-use Prim.Native.Nat.{ℕ, zero, suc, _+_, _≤_, _<_}
+use Prim.Native.Nat.{ℕ, _+_, _≤_, _<_}
 use mathlib.Core.Path.{_≡_, refl, sym, ap, _∙_}
 use mathlib.Core.List.{List, [], _∷_, _++_, append-assoc}
 use mathlib.Core.Bool.{Bool, true, false}
-use native.Mathlib.Nat.{add-zero, add-assoc}
+use native.Mathlib.Nat.{add-zero}
 use native.Mathlib.Omega.{arith}
 use lib.Dec.{eqb}
 use lib.ListN.{length, getD, drop, set, length-append, length-drop, length-set}
 use lib.Seq.{drop-drop, drop-at}
-use borrow.Author.Tests.{eqb-true, ne-eqb}
+use borrow.Author.Tests.{eqb-true}
 use Rattle.rows.specs.Buffers.{written}
 use Rattle.decimal.specs.Numeral.{numeral}
 use Rattle.decimal.specs.Lines.{following, line, Small, endsNumber, Stands, HasLine, LineRead, Room}
 use Rattle.decimal.specs.declared.Cursor.{Cursor}
 use Rattle.decimal.proofs.Numerals.{numeral-some}
 use Rattle.decimal.proofs.Writing.{written-none, written-length, written-snoc}
-use Rattle.decimal.proofs.Runs.{Same, numeral-alone}
+use Rattle.decimal.proofs.Runs.{numeral-alone}
 use Rattle.decimal.proofs.Reading.{inside, front, begins}
 
 -- numbers with a space behind each

@@ -16,7 +16,6 @@ use Rattle.rows.specs.Row.{pick}
 use Rattle.decimal.specs.Numeral.{isDigit, numeral}
 use Rattle.decimal.specs.Lines.{endsNumber, Stands, NumberAt}
 use Rattle.decimal.specs.Promises.{Digits, value}
-use Rattle.decimal.specs.declared.Cursor.{Cursor}
 use Rattle.decimal.specs.declared.Number.{Number}
 use Rattle.decimal.specs.declared.Number.the-variants as number
 use Rattle.decimal.proofs.Numerals.{numeral-digits, numeral-value, numeral-head, numeral-some, numeral-one, numeral-grows, value-append, value-grows, digit-bounds}

@@ -1,17 +1,16 @@
 -- A number in a text: how far its digits reach is settled, and so is the number.
 -- Assumes nothing.
-use Prim.Native.Nat.{ℕ, suc, _+_, _≤_, _<_}
+use Prim.Native.Nat.{ℕ}
 use mathlib.Core.Path.{_≡_, refl, sym, ap, _∙_}
 use mathlib.Core.List.{List, [], _∷_, _++_, append-nil}
 use mathlib.Core.Bool.{Bool, true, false}
 use native.Mathlib.Omega.{arith}
 use lib.Dec.{eqb}
-use lib.ListN.{length, getD}
 use borrow.Author.Tests.{eqb-true}
 use Rattle.decimal.specs.Numeral.{isDigit, numeral}
 use Rattle.decimal.specs.Lines.{endsNumber}
 use Rattle.decimal.specs.Promises.{Digits, value}
-use Rattle.decimal.proofs.Numerals.{numeral-digits, numeral-value, numeral-head, numeral-some, value-append, value-grows, numeral-one}
+use Rattle.decimal.proofs.Numerals.{numeral-digits, numeral-value}
 
 -- the digits w, which end before s, begin with the digits u
 pub record Run (w u : List ℕ) (s : ℕ) (z y : List ℕ) : Type 0 where

@@ -1,13 +1,13 @@
 -- Laws of what is written into a buffer piece by piece.
 -- Assumes nothing.
-use Prim.Native.Nat.{ℕ, suc, _+_, _≤_, _<_}
-use mathlib.Core.Path.{_≡_, refl, sym, ap, _∙_}
-use mathlib.Core.List.{List, [], _∷_, _++_, append-assoc, append-nil}
+use Prim.Native.Nat.{ℕ, _+_, _≤_, _<_}
+use mathlib.Core.Path.{_≡_, sym, ap, _∙_}
+use mathlib.Core.List.{List, [], _∷_, _++_, append-assoc}
 use native.Mathlib.Nat.{add-zero, add-assoc}
 use native.Mathlib.Numerals.{add-one}
 use native.Mathlib.Omega.{arith}
 use lib.ListN.{length, getD, take, drop, set, length-append, length-take, length-drop, take-append-drop}
-use lib.Seq.{length-take-le, take-append-le, take-all, take-at, take-suc, drop-at, drop-cons, set-at, set-split, drop-append-add, take-append-add, drop-drop}
+use lib.Seq.{length-take-le, take-at, take-suc, set-split, drop-append-add, drop-drop}
 use Rattle.rows.specs.Buffers.{written}
 use Rattle.decimal.specs.Printed.{Printed}
 

@@ -3,8 +3,8 @@
 use Prim.Native.Nat.{ℕ, _+_, _≤_}
 use mathlib.Core.Path.{_≡_}
 use mathlib.Core.List.{List, [], _∷_, _++_}
-use mathlib.Core.Bool.{Bool, true, false}
-use lib.Dec.{ltb, eqb}
+use mathlib.Core.Bool.{Bool, true}
+use lib.Dec.{eqb}
 use lib.ListN.{length, getD, drop}
 use Rattle.rows.specs.Row.{pick}
 use Rattle.rows.specs.Buffers.{written}

@@ -1,6 +1,6 @@
 -- A table that was built is right, so a search after a build meets only the refusals of the pattern.
 -- Assumes nothing.
-use Prim.Native.Nat.{ℕ, _+_, _≤_, _<_}
+use Prim.Native.Nat.{ℕ, _+_, _≤_}
 use mathlib.Core.Path.{_≡_, refl, sym, ap, _∙_}
 use mathlib.Core.List.{List}
 use mathlib.Core.Bool.{Bool, true, false}
@@ -27,11 +27,11 @@ use Rattle.patterns.specs.Searches.{Checked}
 use Rattle.patterns.proofs.Listing.{listed-length}
 use Rattle.decimal.proofs.Writing.{written-length}
 use Rattle.sparrowhem.specs.Build.{buildCheck, Built}
-use Rattle.sparrowhem.specs.Search.{searchCheck, output, findCheck, found, Finds}
+use Rattle.sparrowhem.specs.Search.{searchCheck, output, findCheck, Finds}
 use Rattle.sparrowhem.specs.declared.search.Found.{Found}
 use Rattle.sparrowhem.specs.declared.search.Found.the-variants as found-as
 use Rattle.sparrowhem.proofs.Searching.{search-checked}
-use Rattle.seek_text.specs.Search.{seekCheck, MatchesFound, Searched}
+use Rattle.seek_text.specs.Search.{seekCheck, Searched}
 
 -- a buffer of 16,384 places is never too short
 sizes-roomy : (n m : ℕ) → 16384 ≤ m → sizes n m ≡ asRow (sized n 16384)

@@ -1,26 +1,22 @@
 -- The lines of the matches: one line, one line more, and the whole page by page.
 -- Assumes nothing.
 use Prim.Native.Nat.{ℕ, zero, suc, _+_, _-_, _≤_, _<_}
-use mathlib.Core.Path.{_≡_, refl, sym, ap, _∙_}
+use mathlib.Core.Path.{_≡_, refl, ap, _∙_}
 use mathlib.Core.List.{List, [], _∷_, _++_, append-assoc, append-nil, List·Memᴰ, List·Memᴰ·head, List·Memᴰ·tail}
 use mathlib.Core.Logic.{_⊎_, inl, inr}
 use mathlib.Core.Bool.{Bool, true, false}
-use native.Mathlib.Nat.{zero-add}
-use native.Mathlib.Numerals.{add-one}
 use native.Mathlib.Omega.{arith}
-use lib.Dec.{eqb}
 use lib.ListN.{length, getD, take, drop, length-append, length-drop, drop-of-length-le}
-use lib.Seq.{take-suc, drop-drop, getD-drop, take-append-le, take-all}
+use lib.Seq.{take-suc, getD-drop}
 use Rattle.rows.specs.Row.{pick}
 use Rattle.rows.specs.Parse.{table}
 use Rattle.rows.specs.Buffers.{written}
 use Rattle.rows.proofs.Buffers.{written-front}
-use Rattle.patterns.specs.Answers.{MatchesAt, Listed, isLeaf, span, spansBelow, spans}
-use Rattle.patterns.specs.Searches.{Checked, Binds}
+use Rattle.patterns.specs.Answers.{MatchesAt, isLeaf, span, spansBelow, spans}
+use Rattle.patterns.specs.Searches.{Binds}
 use Rattle.patterns.specs.Pattern.{leaf}
 use Rattle.decimal.specs.Printed.{Printed}
 use Rattle.decimal.proofs.Writing.{printed-none, printed-more}
-use Rattle.seek_text.specs.Print.{matchText}
 use Rattle.seek_text.specs.Search.{Ready, lineText, linesText, LinePrinted, PagePrinted}
 
 -- begin and end of sixteen variables

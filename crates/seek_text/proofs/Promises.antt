@@ -1,8 +1,8 @@
 -- The promises of specs/Promises, proved.
 -- Assumes nothing.
-use Prim.Native.Nat.{ℕ, zero, suc, _+_, _-_, _≤_, _<_}
+use Prim.Native.Nat.{ℕ, zero, suc, _+_, _-_, _≤_}
 use mathlib.Core.Path.{_≡_, refl, sym, ap, _∙_}
-use mathlib.Core.List.{List, [], _∷_, _++_, append-nil}
+use mathlib.Core.List.{List, [], _++_, append-nil}
 use native.Mathlib.Omega.{arith}
 use lib.ListN.{length, take, drop}
 use lib.Seq.{drop-length, drop-drop, length-take-le}
@@ -14,11 +14,10 @@ use Rattle.patterns.specs.Answers.{Listed}
 use Rattle.patterns.proofs.Listing.{listed-once}
 use Rattle.decimal.specs.Lines.{line, Small}
 use Rattle.decimal.proofs.Promises.{one-line}
-use Rattle.seek_text.specs.Input.{Says, NoLine, Faulty, Faulty.here, Faulty.later, Faulty.extra, Refuses, Refuses.long, Refuses.faulty, ListsRead, InputRead}
-use Rattle.seek_text.specs.declared.input.Input.{Input}
+use Rattle.seek_text.specs.Input.{Says, Faulty, Faulty.here, Faulty.later, Faulty.extra, Refuses, Refuses.long, Refuses.faulty}
 use Rattle.seek_text.specs.declared.input.Input.the-variants.{Lists, Refused}
 use Rattle.seek_text.specs.Print.{refusalText, countText}
-use Rattle.seek_text.specs.Search.{seekCheck, linesText, Prints, Prints.input-refused, Prints.lists-refused, Prints.lists-searched, AnswerFound, PagePrinted, Pages, Pages.done, Pages.page}
+use Rattle.seek_text.specs.Search.{seekCheck, linesText, Prints, Prints.input-refused, Prints.lists-refused, Prints.lists-searched, Pages, Pages.done, Pages.page}
 use Rattle.seek_text.specs.Promises.{Text-says, Input-accepted, Input-settled, Seek-settled, Pages-whole, Seek-prints}
 use Rattle.seek_text.proofs.Paging.{lines-split}
 

@@ -1,17 +1,17 @@
 -- The three lines of an input, one after the other, and which of them is the first faulty one.
 -- Assumes nothing.
 use Prim.Native.Nat.{ℕ, _+_, _≤_, _<_}
-use mathlib.Core.Path.{_≡_, refl, sym, ap, _∙_}
-use mathlib.Core.List.{List, [], _∷_, _++_, append-assoc, append-nil}
+use mathlib.Core.Path.{_≡_, ap, _∙_}
+use mathlib.Core.List.{List, _++_, append-assoc, append-nil}
 use native.Mathlib.Omega.{arith}
 use lib.ListN.{length, drop, length-append, length-drop, drop-of-length-le}
 use Rattle.rows.specs.Buffers.{written}
 use Rattle.rows.specs.declared.Refusal.the-variants as refusal
-use Rattle.decimal.specs.Lines.{line, Small, HasLine, LineRead, Room}
+use Rattle.decimal.specs.Lines.{line, HasLine, LineRead, Room}
 use Rattle.decimal.specs.declared.Cursor.{Cursor}
 use Rattle.decimal.proofs.Writing.{written-append}
 use Rattle.decimal.proofs.Lining.{line-begins, room-next}
-use Rattle.seek_text.specs.Input.{Says, NoLine, Faulty, Faulty.here, Faulty.later, Faulty.extra, Refuses, Refuses.faulty, ListsRead}
+use Rattle.seek_text.specs.Input.{NoLine, Faulty, Faulty.here, Faulty.later, Faulty.extra, Refuses, Refuses.faulty, ListsRead}
 
 -- the first line's cursor
 abbrev pub top : Cursor

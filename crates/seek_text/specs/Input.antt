@@ -1,7 +1,7 @@
 -- What the input of `seek` says.
 use Prim.Native.Nat.{ℕ, zero, suc, _+_, _≤_, _<_}
 use mathlib.Core.Path.{_≡_}
-use mathlib.Core.List.{List, [], _∷_, _++_}
+use mathlib.Core.List.{List, _++_}
 use lib.ListN.{length}
 use Rattle.rows.specs.Buffers.{written}
 use Rattle.rows.specs.declared.Refusal.{Refusal}

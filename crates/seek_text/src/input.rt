@@ -4,6 +4,7 @@ ghost use lib.ListN.{length};
 ghost use Rattle.seek_text.specs.Input.{InputRead};
 use decimal::Cursor;
 use decimal::Line;
+use decimal::read_line;
 use rows::Refusal;
 
 // Where the arities, the row and the pattern end in a buffer that holds the three, one behind the other; or why the input
@@ -21,16 +22,11 @@ pub fn read_input(input: &[u8], numbers: &mut [u16]) -> Input
     if 65536 < input.len() {
         return Input::Refused(Refusal::InputLong);
     }
-    match decimal::read_line(input, Cursor { at: 0, line: 1 }, numbers, 0) {
+    match read_line(input, Cursor { at: 0, line: 1 }, numbers, 0) {
         Line::Faulty(k) => Input::Refused(Refusal::Line(k)),
-        Line::Numbers(arities, second) => match decimal::read_line(
-            input,
-            second,
-            numbers,
-            arities,
-        ) {
+        Line::Numbers(arities, second) => match read_line(input, second, numbers, arities) {
             Line::Faulty(k) => Input::Refused(Refusal::Line(k)),
-            Line::Numbers(row, third) => match decimal::read_line(input, third, numbers, row) {
+            Line::Numbers(row, third) => match read_line(input, third, numbers, row) {
                 Line::Faulty(k) => Input::Refused(Refusal::Line(k)),
                 Line::Numbers(pattern, fourth) => {
                     // Nothing may follow the third line.

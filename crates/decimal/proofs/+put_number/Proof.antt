@@ -14,7 +14,6 @@ use borrow.Fn.PlainCycle.{Measures, is, falls, and}
 use Rattle.decimal.proofs.put_number.Reads as put-number
 use Rattle.decimal.proofs.put_number.Kinds as put-number-kinds
 use Rattle.decimal.proofs.+put_number.Lts-put_number as put-number-lts
-use Rattle.decimal.proofs.put_byte.Reads as put-byte-reads
 use Rattle.decimal.proofs.+put_number.{statement}
 use Rattle.decimal.proofs.+put_number.Tie.{close}
 

@@ -1,6 +1,6 @@
 -- `decimal::read_line` meets its contract. The loop's invariant: the numbers so far stand in the buffer, and in the text with a space behind each.
 -- Assumes nothing.
-use Prim.Native.Nat.{_+_, _-_, _≤_, _<_}
+use Prim.Native.Nat.{_-_, _<_}
 use mathlib.Core.Path.{_≡_, refl, sym, _∙_}
 use native.Mathlib.Omega.{arith}
 use lib.ListN.{length, getD, length-set}

@@ -1,6 +1,6 @@
 -- `seek::write_lines` is safe and ends: each page goes on behind the one before. (`Pages-whole` says what the pages are.)
 -- Assumes nothing.
-use Prim.Native.Nat.{_-_, _≤_, _<_}
+use Prim.Native.Nat.{_-_, _≤_}
 use mathlib.Core.Path.{_≡_, refl, _∙_}
 use native.Mathlib.Omega.{arith}
 use lib.ListN.{length}
