@@ -14,6 +14,7 @@ use borrow.Fn.PlainCycle.{Measures, is, falls, and}
 use Rattle.decimal.proofs.put_number.Reads as put-number
 use Rattle.decimal.proofs.put_number.Kinds as put-number-kinds
 use Rattle.decimal.proofs.+put_number.Lts-put_number as put-number-lts
+use Rattle.decimal.proofs.put_byte.Reads as put-byte
 use Rattle.decimal.proofs.+put_number.{statement}
 use Rattle.decimal.proofs.+put_number.Tie.{close}
 
@@ -33,48 +34,48 @@ shorter : (n : ℕ) → 10 ≤ n → length (numeral n) ≡ length (numeral (n /
 shorter n h = ap length (numeral-more n h) ∙ length-append (numeral (n / 10)) ((48 + n % 10) ∷ [])
 
 put-number-cast-put-byte : (t : ℕ) → put-number-lts.Need-cast-put-byte (
-  put-byte-reads.Asked,
-  put-byte-reads.Learnt,
+  put-byte.Asked,
+  put-byte.Learnt,
   put-number-below t,
   put-number.Post,
 ) (put-number-at t) put-number.Post
 put-number-cast-put-byte t c = search needs
 
 put-number-add-put-byte : (t : ℕ) → put-number-lts.Need-add-put-byte (
-  put-byte-reads.Asked,
-  put-byte-reads.Learnt,
+  put-byte.Asked,
+  put-byte.Learnt,
   put-number-below t,
   put-number.Post,
 ) (put-number-at t) put-number.Post
 put-number-add-put-byte t c = search needs
 
 put-number-put-byte-requires : (t : ℕ) → put-number-lts.Need-put-byte-requires (
-  put-byte-reads.Asked,
-  put-byte-reads.Learnt,
+  put-byte.Asked,
+  put-byte.Learnt,
   put-number-below t,
   put-number.Post,
 ) (put-number-at t) put-number.Post
 put-number-put-byte-requires t c κs = omega (arith, c .before .before .before .pre .1, numeral-some (c .before .before .before .args .n))
 
 put-number-same-length : (t : ℕ) → put-number-lts.Need-same-length (
-  put-byte-reads.Asked,
-  put-byte-reads.Learnt,
+  put-byte.Asked,
+  put-byte.Learnt,
   put-number-below t,
   put-number.Post,
 ) (put-number-at t) put-number.Post
 put-number-same-length t c = search needs
 
 put-number-returns : (t : ℕ) → put-number-lts.Need-returns (
-  put-byte-reads.Asked,
-  put-byte-reads.Learnt,
+  put-byte.Asked,
+  put-byte.Learnt,
   put-number-below t,
   put-number.Post,
 ) (put-number-at t) put-number.Post
 put-number-returns t c = rw (numeral-one _ (c .before .before .before .before .if1 .taken)) (c .before .before .put-byte .ensures)
 
 put-number-put-number-requires : (t : ℕ) → put-number-lts.Need-put-number-requires (
-  put-byte-reads.Asked,
-  put-byte-reads.Learnt,
+  put-byte.Asked,
+  put-byte.Learnt,
   put-number-below t,
   put-number.Post,
 ) (put-number-at t) put-number.Post
@@ -82,24 +83,24 @@ put-number-put-number-requires t c κs =
     (omega (arith, c .before .before .before .pre .0), omega (arith, c .before .before .before .pre .1, shorter (c .before .before .before .args .n) (c .before .if1 .left)))
 
 put-number-cast-put-byte-2 : (t : ℕ) → put-number-lts.Need-cast-put-byte-2 (
-  put-byte-reads.Asked,
-  put-byte-reads.Learnt,
+  put-byte.Asked,
+  put-byte.Learnt,
   put-number-below t,
   put-number.Post,
 ) (put-number-at t) put-number.Post
 put-number-cast-put-byte-2 t c = search needs
 
 put-number-add-put-byte-2 : (t : ℕ) → put-number-lts.Need-add-put-byte-2 (
-  put-byte-reads.Asked,
-  put-byte-reads.Learnt,
+  put-byte.Asked,
+  put-byte.Learnt,
   put-number-below t,
   put-number.Post,
 ) (put-number-at t) put-number.Post
 put-number-add-put-byte-2 t c = search needs
 
 put-number-put-byte-requires-2 : (t : ℕ) → put-number-lts.Need-put-byte-requires-2 (
-  put-byte-reads.Asked,
-  put-byte-reads.Learnt,
+  put-byte.Asked,
+  put-byte.Learnt,
   put-number-below t,
   put-number.Post,
 ) (put-number-at t) put-number.Post
@@ -107,16 +108,16 @@ put-number-put-byte-requires-2 t c κs =
     omega (arith, c .before .before .before .before .before .before .before .pre .1, shorter (c .before .before .before .before .before .before .before .args .n) (c .before .before .before .before .before .if1 .left), c .before .before .before .put-number .ensures .next, c .before .before .before .put-number .kept .0)
 
 put-number-same-length-2 : (t : ℕ) → put-number-lts.Need-same-length-2 (
-  put-byte-reads.Asked,
-  put-byte-reads.Learnt,
+  put-byte.Asked,
+  put-byte.Learnt,
   put-number-below t,
   put-number.Post,
 ) (put-number-at t) put-number.Post
 put-number-same-length-2 t c = search needs
 
 put-number-returns-2 : (t : ℕ) → put-number-lts.Need-returns-2 (
-  put-byte-reads.Asked,
-  put-byte-reads.Learnt,
+  put-byte.Asked,
+  put-byte.Learnt,
   put-number-below t,
   put-number.Post,
 ) (put-number-at t) put-number.Post
@@ -128,8 +129,8 @@ put-number-returns-2 t c =
 
 pub +put-number-spec : {M : Type 1} → statement M
 +put-number-spec = close μ-put-number λ t. put-number-lts.spec (
-  put-byte-reads.Asked,
-  put-byte-reads.Learnt,
+  put-byte.Asked,
+  put-byte.Learnt,
   put-number-below t,
   put-number.Post,
 )
