@@ -1,33 +1,39 @@
-// Build, find and replace for C, on lent bytes. Nothing is asked of the caller but what a C programmer knows anyway: a
-// pointer leads to as many bytes as its count says, and no buffer that is written overlaps another.
-ghost use mathlib.Core.Path.{_≡_};
-ghost use Rattle.host.specs.Answer.{refused};
-use rows::Refusal;
+// Build, find and replace for C, as include/sparrowhem.h declares them. Nothing is asked of the caller but what that header
+// says: a pointer leads to as many bytes as its count says, and no buffer that is written overlaps another.
+ghost use Rattle.wire.specs.Wire.{numbers};
+ghost use Rattle.lent.specs.Calls.{BuiltBytes, FoundBytes, ReplacedBytes};
+use lent::Answer;
 
-mod build;
-mod copies;
-mod fill;
-mod find;
-mod replace;
-mod scan;
-
-// An answer, as it crosses. `refusal` is 0 or document 01's number.
-#[repr(C)]
-pub struct Answer {
-    pub refusal: u32,
-    pub change: i32,
-    pub place: u64,
-    pub count: u64,
+#[no_mangle]
+pub extern "C" fn sparrowhem_build(arities: &[u8], row: &[u8], table: &mut [u8]) -> Answer
+    ensures { λ r. ⌜ BuiltBytes (numbers (now (arities .entry))) (numbers (now (row .entry))) (now (table .entry)) r (now (table .exit)) ⌝ }
+{
+    lent::build(arities, row, table)
 }
 
-// A refusal, as it crosses.
-fn refusal_of(refusal: Refusal) -> Answer
-    ensures { λ r. ⌜ r ≡ refused refusal ⌝ }
+#[no_mangle]
+pub extern "C" fn sparrowhem_find(
+    arities: &[u8],
+    row: &[u8],
+    table: &[u8],
+    pattern: &[u8],
+    out: &mut [u8],
+) -> Answer
+    ensures { λ r. ⌜ FoundBytes (numbers (now (arities .entry))) (numbers (now (row .entry))) (numbers (now (table .entry))) (numbers (now (pattern .entry))) (now (out .entry)) r (now (out .exit)) ⌝ }
 {
-    Answer {
-        refusal: rows::number_of(refusal) as u32,
-        change: 0,
-        place: rows::place_of(refusal) as u64,
-        count: 0,
-    }
+    copied::find(arities, row, table, pattern, out)
+}
+
+#[no_mangle]
+pub extern "C" fn sparrowhem_replace(
+    arities: &[u8],
+    row: &mut [u8],
+    table: &mut [u8],
+    row_length: u64,
+    replacement: &[u8],
+    position: u64,
+) -> Answer
+    ensures { λ r. ⌜ ReplacedBytes (numbers (now (arities .entry))) (now (row .entry)) (now (table .entry)) «row_length» (numbers (now (replacement .entry))) position r (now (row .exit)) (now (table .exit)) ⌝ }
+{
+    copied::replace(arities, row, table, row_length as usize, replacement, position as usize)
 }

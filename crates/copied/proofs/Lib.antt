@@ -1,0 +1,5 @@
+pub mod Checks
+pub mod Cut
+pub mod Copying
+pub mod Found
+pub mod Editing

@@ -1,6 +1,0 @@
-pub mod Crossing
-pub mod Checks
-pub mod Cut
-pub mod Copying
-pub mod Found
-pub mod Editing

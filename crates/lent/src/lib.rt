@@ -1,0 +1,32 @@
+// Numbers in lent bytes: how answers cross, the checks of an alphabet and a row, and build, all on the bytes themselves.
+ghost use mathlib.Core.Path.{_≡_};
+ghost use Rattle.lent.specs.Answer.{refused};
+use rows::Refusal;
+
+mod build;
+mod fill;
+mod scan;
+
+pub use build::build;
+pub use scan::check_sizes;
+
+// An answer, as it crosses. `refusal` is 0 or document 01's number.
+#[repr(C)]
+pub struct Answer {
+    pub refusal: u32,
+    pub change: i32,
+    pub place: u64,
+    pub count: u64,
+}
+
+// A refusal, as it crosses.
+pub fn refusal_of(refusal: Refusal) -> Answer
+    ensures { λ r. ⌜ r ≡ refused refusal ⌝ }
+{
+    Answer {
+        refusal: rows::number_of(refusal) as u32,
+        change: 0,
+        place: rows::place_of(refusal) as u64,
+        count: 0,
+    }
+}

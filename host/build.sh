@@ -1,0 +1,24 @@
+#!/bin/sh
+# build.sh [PREFIX]: proves and builds the archive, and builds the example over it, in target/host; with PREFIX, installs
+# archive, header and pkg-config file there. On x86-64 the example is built by CC (default cc), elsewhere by the kit.
+set -eu
+cd "$(dirname "$0")/.."
+prefix=${1:-}
+rt staticlib host
+out=target/host
+mkdir -p $out
+cp target/staticlib/libhost.a $out/libsparrowhem.a
+if [ "$(uname -m)" = x86_64 ]; then
+    ${CC:-cc} -std=c99 -O2 -Wall -Wextra -Iinclude -o $out/example host/example.c -L$out -lsparrowhem
+else
+    . host/kit.sh
+    kit_cc $out/example host/example.c
+fi
+echo "built $out/libsparrowhem.a and $out/example"
+[ -n "$prefix" ] || exit 0
+version=$(sed -n 's/^#define SPARROWHEM_VERSION "\(.*\)"$/\1/p' include/sparrowhem.h)
+mkdir -p "$prefix/lib/pkgconfig" "$prefix/include"
+cp $out/libsparrowhem.a "$prefix/lib/"
+cp include/sparrowhem.h "$prefix/include/"
+sed "s,@prefix@,$prefix,; s,@version@,$version," sparrowhem.pc.in >"$prefix/lib/pkgconfig/sparrowhem.pc"
+echo "installed below $prefix"

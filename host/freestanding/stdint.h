@@ -1,0 +1,11 @@
+#ifndef HOST_STDINT_H
+#define HOST_STDINT_H
+typedef __UINT8_TYPE__ uint8_t;
+typedef __UINT16_TYPE__ uint16_t;
+typedef __UINT32_TYPE__ uint32_t;
+typedef __UINT64_TYPE__ uint64_t;
+typedef __INT32_TYPE__ int32_t;
+typedef __UINTPTR_TYPE__ uintptr_t;
+#define UINT64_C(n) n##ul
+#define UINT64_MAX UINT64_C(18446744073709551615)
+#endif

@@ -1,0 +1,368 @@
+/* The archive from the host's side: worked programmes, odd bytes, odd addresses, null with 0, limits, every refusal, and the stack
+   that each call takes. All lists of a case stand in one arena, each at an odd address with guard bytes round it; a call must
+   leave the arena as it was but for what the case expects. */
+#include <stddef.h>
+#include <stdint.h>
+#include <stdio.h>
+#include <string.h>
+#include <sparrowhem.h>
+
+enum { GUARD = 33, BIG = 16384 };
+
+static uint8_t arena[1 << 18] __attribute__((aligned(2))), expected[1 << 18];
+static size_t used;
+static unsigned passed, failed;
+
+typedef struct {
+    uint8_t *at;
+    size_t bytes;
+} lent;
+
+static const lent none = {0, 0};
+
+/* Lends `bytes` bytes: the numbers first, then whatever stood there. */
+static lent lend_bytes(const unsigned *numbers, size_t count, size_t bytes) {
+    lent list = {arena + used + GUARD, bytes};
+    memset(arena + used, 0xC3, GUARD);
+    for (size_t i = 0; i < bytes; i++) {
+        list.at[i] = (uint8_t)(0x40 + i % 61);
+    }
+    for (size_t i = 0; i < count; i++) {
+        list.at[2 * i] = (uint8_t)(numbers[i] & 255u);
+        list.at[2 * i + 1] = (uint8_t)(numbers[i] >> 8);
+    }
+    memset(list.at + bytes, 0x3C, GUARD);
+    used += bytes + 2 * GUARD;
+    used += used & 1; /* so that every list begins at an odd address */
+    return list;
+}
+
+static lent lend(const unsigned *numbers, size_t count) {
+    return lend_bytes(numbers, count, 2 * count);
+}
+
+/* The case begins: nothing is lent. */
+static void start(void) {
+    used = 0;
+    memset(arena, 0x99, sizeof arena);
+}
+
+/* The lists are lent; what stands in the arena now is expected afterwards, but for the numbers below. */
+static void ready(void) {
+    memcpy(expected, arena, sizeof arena);
+}
+
+static void expect(lent list, size_t from, const unsigned *numbers, size_t count) {
+    uint8_t *at = expected + (list.at - arena) + 2 * from;
+    for (size_t i = 0; i < count; i++) {
+        at[2 * i] = (uint8_t)(numbers[i] & 255u);
+        at[2 * i + 1] = (uint8_t)(numbers[i] >> 8);
+    }
+}
+
+static void check(const char *name, sparrowhem_answer a, unsigned refusal, int change, uint64_t place, uint64_t count) {
+    int right = a.refusal == refusal && a.change == change && a.place == place && a.count == count;
+    int same = memcmp(arena, expected, sizeof arena) == 0;
+    if (right && same) {
+        passed++;
+        return;
+    }
+    failed++;
+    printf("FAILED %s: refusal %u change %d place %llu count %llu%s\n", name, (unsigned)a.refusal, (int)a.change,
+        (unsigned long long)a.place, (unsigned long long)a.count, same ? "" : ", and other bytes than expected");
+}
+
+static void check_refused(const char *name, sparrowhem_answer a, unsigned refusal, uint64_t place) {
+    check(name, a, refusal, 0, place, 0);
+}
+
+static void check_that(const char *name, int holds) {
+    if (holds) {
+        passed++;
+    } else {
+        failed++;
+        printf("FAILED %s\n", name);
+    }
+}
+
+static sparrowhem_answer build(lent a, lent w, lent t) {
+    return sparrowhem_build(a.at, a.bytes, w.at, w.bytes, t.at, t.bytes);
+}
+
+static sparrowhem_answer find(lent a, lent w, lent t, lent q, lent o) {
+    return sparrowhem_find(a.at, a.bytes, w.at, w.bytes, t.at, t.bytes, q.at, q.bytes, o.at, o.bytes);
+}
+
+static sparrowhem_answer replace(lent a, lent w, lent t, uint64_t n, lent v, uint64_t p) {
+    return sparrowhem_replace(a.at, a.bytes, w.at, w.bytes, t.at, t.bytes, n, v.at, v.bytes, p);
+}
+
+/* The worked alphabet, row and table. */
+#define COUNT(list) (sizeof(list) / sizeof(list)[0])
+#define X0 SPARROWHEM_VARIABLE(0u)
+#define X1 SPARROWHEM_VARIABLE(1u)
+#define S SPARROWHEM_ANY
+static const unsigned A[] = {0, 0, 1, 2, 3};
+static const unsigned T[] = {4, 3, 0, 0, 2, 1, 3, 0, 0};
+static const unsigned ENDS[] = {9, 4, 3, 4, 6, 6, 9, 8, 9};
+
+/* A long row: a chain of 2s over a leaf; and its table. */
+static unsigned chain[BIG + 1], chain_ends[BIG + 1], thousand[1025], wide[257], zeros[BIG + 1];
+
+static void fill_lists(void) {
+    for (size_t i = 0; i <= BIG; i++) {
+        chain[i] = 2;
+        chain_ends[i] = BIG;
+    }
+    chain[BIG - 1] = 0;
+    for (size_t i = 0; i < 257; i++) {
+        wide[i] = i < 255 ? 2 : 0;
+    }
+}
+
+static void build_case(const char *name, const unsigned *row, size_t n, unsigned refusal, uint64_t place) {
+    start();
+    lent a = lend(A, COUNT(A)), w = lend(row, n), t = lend_bytes(0, 0, 2 * n + 6);
+    ready();
+    check_refused(name, build(a, w, t), refusal, place);
+}
+
+static void builds(void) {
+    static const unsigned r1[] = {3, 0}, r2[] = {0, 0}, r3[] = {0, 9}, r4[] = {3, 9, 0}, r5[] = {3, 0, 65535};
+    static const unsigned over[] = {0, 16, 17}, no_leaf[] = {1};
+    build_case("build 8", r1, 2, SPARROWHEM_ROW_EARLY, 2);
+    build_case("build 9", r2, 2, SPARROWHEM_ROW_EXTRA, 1);
+    build_case("build 9 before 7", r3, 2, SPARROWHEM_ROW_EXTRA, 1);
+    build_case("build 7", r4, 3, SPARROWHEM_ROW_STRAY, 1);
+    build_case("build, a blank in a row", r5, 3, SPARROWHEM_ROW_STRAY, 2);
+    build_case("build 4", r1, 0, SPARROWHEM_ROW_EMPTY, 0);
+    build_case("build 5", chain, BIG + 1, SPARROWHEM_ROW_LONG, BIG + 1);
+
+    for (size_t more = 0; more < 6; more++) { /* a table with just room, and with more, odd bytes too */
+        start();
+        lent a = lend_bytes(A, 5, 10 + (more & 1)), w = lend_bytes(T, 9, 18 + (more & 1)), t = lend_bytes(0, 0, 18 + more);
+        ready();
+        expect(t, 0, ENDS, 9);
+        check("build", build(a, w, t), 0, 0, 0, 9);
+    }
+    start();
+    lent a = lend(A, 5), w = lend(T, 9), t = lend_bytes(0, 0, 17);
+    ready();
+    check_refused("build 6, an odd byte", build(a, w, t), SPARROWHEM_BUFFER_SHORT, 9);
+    check_refused("build 6, no table", build(a, w, none), SPARROWHEM_BUFFER_SHORT, 9);
+    check_refused("build 4, no row", build(a, none, t), SPARROWHEM_ROW_EMPTY, 0);
+    check_refused("build 1, nothing at all", build(none, none, none), SPARROWHEM_ALPHABET_SIZE, 0);
+
+    start();
+    lent bad = lend(over, 3), leafless = lend(no_leaf, 1), long_row = lend(chain, BIG + 1), many = lend(thousand, 1025);
+    t = lend_bytes(0, 0, 2 * BIG + 2);
+    ready();
+    check_refused("build 2 before 5", build(bad, long_row, t), SPARROWHEM_ARITY_OVER, 1);
+    check_refused("build 3 before 4", build(leafless, none, t), SPARROWHEM_NO_LEAF, 0);
+    check_refused("build 1 before 5", build(many, long_row, t), SPARROWHEM_ALPHABET_SIZE, 1025);
+    many.bytes = 2 * 1024 + 1;
+    lent leaf = {many.at, 2};
+    static const unsigned one[] = {1};
+    expect(t, 0, one, 1);
+    check("build with 1,024 symbols", build(many, leaf, t), 0, 0, 0, 1);
+
+    start();
+    lent longest = lend(chain, BIG), room = lend_bytes(0, 0, 2 * BIG), deep = lend(A, 5);
+    ready();
+    expect(room, 0, chain_ends, BIG);
+    check("build of 16,384", build(deep, longest, room), 0, 0, 0, BIG);
+    start();
+    unsigned fifteen[2] = {15, 0}, fan[16] = {0}, fan_ends[16];
+    for (unsigned i = 1; i < 16; i++) {
+        fan[i] = 1;
+        fan_ends[i] = i + 1;
+    }
+    fan_ends[0] = 16;
+    a = lend(fifteen, 2), w = lend(fan, 16), t = lend_bytes(0, 0, 32);
+    ready();
+    expect(t, 0, fan_ends, 16);
+    check("build with arity 15", build(a, w, t), 0, 0, 0, 16);
+}
+
+static void find_case(const char *name, const unsigned *row, const unsigned *table, size_t n, const unsigned *pattern, size_t m,
+    size_t out_bytes, const unsigned *positions, size_t count, unsigned refusal, uint64_t place) {
+    start();
+    lent a = lend(A, 5), w = lend_bytes(row, n, 2 * n + 1), t = lend_bytes(table, n, 2 * n + 7), q = lend_bytes(pattern, m, 2 * m + 1);
+    lent o = lend_bytes(0, 0, out_bytes);
+    ready();
+    expect(o, 0, positions, count);
+    check(name, find(a, w, t, q, o), refusal, 0, place, count);
+}
+
+static void finds(void) {
+    static const unsigned twins[] = {3, X0, X0}, ends[] = {4, X0, S, X0}, same[] = {4, X0, X0, S}, any[] = {S}, all[] = {0, 1, 2, 3, 4, 5, 6, 7, 8};
+    static const unsigned at1[] = {1, 6}, at2[] = {0}, far[] = {4, 3, 0, 0, 0, 3, 0, 1}, far_ends[] = {8, 4, 3, 4, 5, 8, 7, 8};
+    static const unsigned apart[] = {3, S, S}, odd[] = {5}, early[] = {3, X0}, extra[] = {X1, 0}, low[] = {65279}, high[] = {65296};
+    static const unsigned stale[] = {9, 4, 3, 4, 5, 6, 9, 8, 9};
+    find_case("find 3 X0 X0", T, ENDS, 9, twins, 3, 18, at1, 2, 0, 0);
+    find_case("find with just room", T, ENDS, 9, twins, 3, 5, at1, 2, 0, 0);
+    find_case("find 19", T, ENDS, 9, twins, 3, 3, 0, 0, SPARROWHEM_OUTPUT_SHORT, 2);
+    find_case("find 4 X0 S X0", T, ENDS, 9, ends, 4, 18, at2, 1, 0, 0);
+    find_case("find 4 X0 X0 S", T, ENDS, 9, same, 4, 0, 0, 0, 0, 0);
+    find_case("find S", T, ENDS, 9, any, 1, 19, all, 9, 0, 0);
+    find_case("find S, one place short", T, ENDS, 9, any, 1, 17, 0, 0, SPARROWHEM_OUTPUT_SHORT, 9);
+    find_case("find, equal in length and root only", far, far_ends, 8, ends, 4, 16, 0, 0, 0, 0);
+    find_case("find 3 S S", far, far_ends, 8, apart, 3, 16, (const unsigned[]){1, 5}, 2, 0, 0);
+    find_case("find 10", T, stale, 9, any, 1, 18, 0, 0, SPARROWHEM_STALE, 4);
+    find_case("find 10 before 11", T, stale, 9, any, 0, 18, 0, 0, SPARROWHEM_STALE, 4);
+    find_case("find 10 before 12", T, stale, 9, wide, 257, 18, 0, 0, SPARROWHEM_STALE, 4);
+    find_case("find 11", T, ENDS, 9, any, 0, 18, 0, 0, SPARROWHEM_PATTERN_EMPTY, 0);
+    find_case("find 12", T, ENDS, 9, wide, 257, 18, 0, 0, SPARROWHEM_PATTERN_LONG, 257);
+    find_case("find with a pattern of 256", T, ENDS, 9, wide, 256, 0, 0, 0, 0, 0);
+    find_case("find 13", T, ENDS, 9, odd, 1, 18, 0, 0, SPARROWHEM_PATTERN_STRAY, 0);
+    find_case("find 13 below the variables", T, ENDS, 9, low, 1, 18, 0, 0, SPARROWHEM_PATTERN_STRAY, 0);
+    find_case("find 13 above the variables", T, ENDS, 9, high, 1, 18, 0, 0, SPARROWHEM_PATTERN_STRAY, 0);
+    find_case("find 14", T, ENDS, 9, early, 2, 18, 0, 0, SPARROWHEM_PATTERN_EARLY, 2);
+    find_case("find 15", T, ENDS, 9, extra, 2, 18, 0, 0, SPARROWHEM_PATTERN_EXTRA, 1);
+
+    for (size_t places = 0; places < 2; places++) { /* the longest row, in an output with more places than it can fill, and one short */
+        start();
+        lent a = lend(A, 5), w = lend(chain, BIG), t = lend(chain_ends, BIG), q = lend(any, 1);
+        lent o = lend_bytes(0, 0, places ? 2 * BIG + 5 : 2 * BIG - 1);
+        ready();
+        for (unsigned i = 0; places && i < BIG; i++) {
+            expect(o, i, &i, 1);
+        }
+        check("find in 16,384", find(a, w, t, q, o), places ? 0 : SPARROWHEM_OUTPUT_SHORT, 0, places ? 0 : BIG, places ? BIG : 0);
+    }
+    start();
+    lent a = lend(A, 5), w = lend(T, 9), t = lend(ENDS, 9), q = lend(twins, 3), many = lend(thousand, 1025), over = lend(chain, BIG + 1);
+    ready();
+    check_refused("find 19, no output", find(a, w, t, q, none), SPARROWHEM_OUTPUT_SHORT, 2);
+    check_refused("find 11, no pattern", find(a, w, t, none, none), SPARROWHEM_PATTERN_EMPTY, 0);
+    check_refused("find 6, no table", find(a, w, none, q, none), SPARROWHEM_BUFFER_SHORT, 9);
+    check_refused("find 4, no row", find(a, none, t, q, none), SPARROWHEM_ROW_EMPTY, 0);
+    check_refused("find 1, nothing at all", find(none, none, none, none, none), SPARROWHEM_ALPHABET_SIZE, 0);
+    check_refused("find 1", find(many, over, t, q, none), SPARROWHEM_ALPHABET_SIZE, 1025);
+    check_refused("find 5", find(a, over, t, q, none), SPARROWHEM_ROW_LONG, BIG + 1);
+    check_refused("find, row for pattern and pattern for row", find(a, q, t, w, none), SPARROWHEM_ROW_STRAY, 1);
+    static const unsigned root[] = {0};
+    lent o = lend_bytes(0, 0, 4);
+    ready();
+    expect(o, 0, root, 1);
+    check("find, the same list as row and pattern", find(a, w, t, w, o), 0, 0, 0, 1);
+}
+
+static void replaces(void) {
+    static const unsigned longer[] = {3, 0, 1}, shorter[] = {1}, freed[] = {65535, 65535}, blank[] = {X0}, early[] = {2}, extra[] = {0, 0};
+    static const unsigned w1[] = {4, 3, 0, 0, 3, 0, 1, 3, 0, 0}, t1[] = {10, 4, 3, 4, 7, 6, 7, 10, 9, 10};
+    static const unsigned w2[] = {4, 1, 2, 1, 3, 0, 0}, t2[] = {7, 2, 4, 4, 7, 6, 7};
+    for (size_t more = 0; more < 5; more++) {
+        start();
+        lent a = lend(A, 5), w = lend_bytes(T, 9, 20 + more), t = lend_bytes(ENDS, 9, 20 + more), v = lend_bytes(longer, 3, 6 + (more & 1));
+        ready();
+        expect(w, 0, w1, 10);
+        expect(t, 0, t1, 10);
+        check("replace by a longer one", replace(a, w, t, 9, v, 4), 0, 1, 0, 10);
+    }
+    start();
+    lent a = lend(A, 5), w = lend_bytes(T, 9, 23), t = lend_bytes(ENDS, 9, 21), v = lend(shorter, 1), long_v = lend(longer, 3);
+    lent old = lend(T + 1, 3), bad = lend(blank, 1), cut = lend(early, 1), two = lend(extra, 2), over = lend(zeros, BIG + 1);
+    ready();
+    check_refused("replace 17", replace(a, w, t, 9, v, 9), SPARROWHEM_POSITION, 9);
+    check_refused("replace 17, far", replace(a, w, t, 9, v, UINT64_C(1) << 40), SPARROWHEM_POSITION, UINT64_C(1) << 40);
+    check_refused("replace 27 before 17", replace(a, w, t, 9, bad, 9), SPARROWHEM_REPLACEMENT_STRAY, 0);
+    check_refused("replace 24", replace(a, w, t, 9, none, 0), SPARROWHEM_REPLACEMENT_EMPTY, 0);
+    check_refused("replace 25", replace(a, w, t, 9, over, 0), SPARROWHEM_REPLACEMENT_LONG, BIG + 1);
+    check_refused("replace 28", replace(a, w, t, 9, cut, 0), SPARROWHEM_REPLACEMENT_EARLY, 1);
+    check_refused("replace 29", replace(a, w, t, 9, two, 0), SPARROWHEM_REPLACEMENT_EXTRA, 1);
+    check_refused("replace 4", replace(a, w, t, 0, v, 0), SPARROWHEM_ROW_EMPTY, 0);
+    check_refused("replace 5", replace(a, w, t, 20000, v, 0), SPARROWHEM_ROW_LONG, 20000);
+    check_refused("replace 5, far", replace(a, w, t, UINT64_MAX, v, 0), SPARROWHEM_ROW_LONG, UINT64_MAX);
+    check_refused("replace 6, the row's buffer", replace(a, w, t, 12, v, 0), SPARROWHEM_BUFFER_SHORT, 12);
+    check_refused("replace 6, the table", replace(a, w, t, 11, v, 0), SPARROWHEM_BUFFER_SHORT, 11);
+    check_refused("replace 9", replace(a, w, t, 10, v, 0), SPARROWHEM_ROW_EXTRA, 9);
+    check_refused("replace 8", replace(a, w, t, 8, v, 0), SPARROWHEM_ROW_EARLY, 8);
+    check_refused("replace 1, nothing at all", replace(none, none, none, 0, none, 0), SPARROWHEM_ALPHABET_SIZE, 0);
+    expect(w, 0, w2, 7);
+    expect(w, 7, freed, 2);
+    expect(t, 0, t2, 7);
+    expect(t, 7, zeros, 2);
+    check("replace by a shorter one", replace(a, w, t, 9, v, 1), 0, -2, 0, 7);
+    check_refused("replace 10, the new table for the old length", replace(a, w, t, 9, v, 1), SPARROWHEM_ROW_EXTRA, 7);
+    expect(w, 0, T, 9);
+    expect(t, 0, ENDS, 9);
+    check("putting back", replace(a, w, t, 7, old, 1), 0, 2, 0, 9);
+    ready();
+    check("the same again changes nothing", replace(a, w, t, 9, old, 1), 0, 0, 0, 9);
+    lent tight_w = {w.at, 19}, tight_t = {t.at, 19};
+    check_refused("replace 18, the row's buffer", replace(a, tight_w, t, 9, long_v, 4), SPARROWHEM_TOO_LONG, 10);
+    check_refused("replace 18, the table", replace(a, w, tight_t, 9, long_v, 4), SPARROWHEM_TOO_LONG, 10);
+    t.at[9] ^= 1;
+    ready();
+    check_refused("replace 10", replace(a, w, t, 9, v, 0), SPARROWHEM_STALE, 4);
+    check_refused("replace 10 before 25", replace(a, w, t, 9, over, 0), SPARROWHEM_STALE, 4);
+
+    /* the longest row, in buffers that are longer still */
+    static const unsigned pair[] = {2, 0};
+    start();
+    a = lend(A, 5), w = lend_bytes(chain, BIG, 2 * BIG + 9), t = lend_bytes(chain_ends, BIG, 2 * BIG + 11), v = lend(zeros, 1), long_v = lend(pair, 2);
+    ready();
+    check_refused("replace 18, over 16,384", replace(a, w, t, BIG, long_v, BIG - 1), SPARROWHEM_TOO_LONG, BIG + 1);
+    for (size_t i = 0; i < BIG; i++) {
+        unsigned free_row = 65535, free_table = 0;
+        expect(w, i, &free_row, 1);
+        expect(t, i, &free_table, 1);
+    }
+    static const unsigned one[] = {1};
+    expect(w, 0, zeros, 1);
+    expect(t, 0, one, 1);
+    check("replace the root of 16,384", replace(a, w, t, BIG, v, 0), 0, 1 - BIG, 0, 1);
+}
+
+/* What a call takes of the stack: it runs on a painted one. */
+static uint8_t painted[1 << 19];
+static lent run_a, run_w, run_t, run_q, run_o;
+
+static void run_nothing(void) {}
+static void run_build(void) { build(run_a, run_w, run_t); }
+static void run_find(void) { find(run_a, run_w, run_t, run_q, run_o); }
+static void run_replace(void) { replace(run_a, run_w, run_t, BIG, run_o, 0); }
+
+static size_t stack_of(void (*run)(void)) {
+    uint8_t *top = painted + sizeof painted - 64;
+    top -= (uintptr_t)top % 64;
+    memset(painted, 0xA5, sizeof painted);
+    __asm__ volatile("movq %%rsp, %%rbx\n\tmovq %1, %%rsp\n\tcall *%0\n\tmovq %%rbx, %%rsp"
+        :
+        : "r"(run), "r"(top)
+        : "rbx", "rax", "rcx", "rdx", "rsi", "rdi", "r8", "r9", "r10", "r11", "memory", "cc", "xmm0", "xmm1", "xmm2", "xmm3", "xmm4",
+        "xmm5", "xmm6", "xmm7", "xmm8", "xmm9", "xmm10", "xmm11", "xmm12", "xmm13", "xmm14", "xmm15");
+    size_t low = 0;
+    while (low < sizeof painted && painted[low] == 0xA5) {
+        low++;
+    }
+    return (size_t)(top - (painted + low));
+}
+
+static void stacks(void) {
+    static const unsigned any[] = {S};
+    start();
+    run_a = lend(A, 5), run_w = lend(chain, BIG), run_t = lend(chain_ends, BIG), run_q = lend(any, 1), run_o = lend(zeros, BIG);
+    size_t empty = stack_of(run_nothing), b = stack_of(run_build), f = stack_of(run_find);
+    run_o.bytes = 2;
+    run_o.at[0] = run_o.at[1] = 0;
+    size_t r = stack_of(run_replace);
+    printf("stack: build %zu, find %zu, replace %zu bytes\n", b - empty, f - empty, r - empty);
+    check_that("build takes under 1 KiB of stack", b - empty < 1024);
+    check_that("find takes under 192 KiB of stack", f - empty < 192 * 1024);
+    check_that("replace takes under 192 KiB of stack", r - empty < 192 * 1024);
+}
+
+int main(void) {
+    fill_lists();
+    check_that("an answer is 24 bytes", sizeof(sparrowhem_answer) == 24);
+    check_that("with its fields in order", offsetof(sparrowhem_answer, refusal) == 0 && offsetof(sparrowhem_answer, change) == 4
+        && offsetof(sparrowhem_answer, place) == 8 && offsetof(sparrowhem_answer, count) == 16);
+    builds();
+    finds();
+    replaces();
+    stacks();
+    printf("%u passed, %u failed\n", passed, failed);
+    return failed != 0;
+}

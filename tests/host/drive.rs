@@ -1,0 +1,697 @@
+// Drives the archive's server (serve.c) with random inputs and holds every answer, and every byte that the call left, against
+// a model of document 01 that is written from what a row means: a tree. The model shares nothing with the proved code.
+//
+// drive [--seed N] [--inputs N] SERVER [WORD..]: the last words start the server. Its last line is `N passed, M failed`.
+use std::io::{Read, Write};
+use std::process::{Child, ChildStdin, ChildStdout, Command, Stdio};
+
+// ---- the model -------------------------------------------------------------------------------------------------------------
+
+const BLANK: u16 = 65535;
+const MOST: usize = 16384;
+
+#[derive(Clone)]
+struct Node {
+    symbol: u16,
+    children: Vec<Node>,
+}
+
+// A refusal of document 01: number and place.
+type Refused = (u32, u64);
+
+fn variable(symbol: u16) -> Option<usize> {
+    if (65280..=65295).contains(&symbol) {
+        Some(symbol as usize - 65280)
+    } else {
+        None
+    }
+}
+
+// Faults of a list that should be a row: which numbers they have depends on what the list is for.
+struct Numbers {
+    empty: u32,
+    long: u32,
+    stray: u32,
+    early: u32,
+    extra: u32,
+    most: usize,
+    leaves: bool,
+}
+
+const ROW: Numbers = Numbers { empty: 4, long: 5, stray: 7, early: 8, extra: 9, most: MOST, leaves: false };
+const PATTERN: Numbers = Numbers { empty: 11, long: 12, stray: 13, early: 14, extra: 15, most: 256, leaves: true };
+const REPLACEMENT: Numbers = Numbers { empty: 24, long: 25, stray: 27, early: 28, extra: 29, most: MOST, leaves: false };
+
+fn size_fault(n: u64, k: &Numbers) -> Result<(), Refused> {
+    if n == 0 {
+        return Err((k.empty, 0));
+    }
+    if n > k.most as u64 {
+        return Err((k.long, n));
+    }
+    Ok(())
+}
+
+// A node: its symbol, then as many nodes as the symbol's arity says.
+fn node(arities: &[u16], list: &[u16], at: &mut usize, k: &Numbers) -> Result<Node, Refused> {
+    if *at == list.len() {
+        return Err((k.early, list.len() as u64));
+    }
+    let symbol = list[*at];
+    let arity = match arities.get(symbol as usize) {
+        Some(&a) => a,
+        None if k.leaves && (symbol == BLANK || variable(symbol).is_some()) => 0,
+        None => return Err((k.stray, *at as u64)),
+    };
+    *at += 1;
+    let mut children = Vec::with_capacity(arity as usize);
+    for _ in 0..arity {
+        children.push(node(arities, list, at, k)?);
+    }
+    Ok(Node { symbol, children })
+}
+
+fn tree(arities: &[u16], list: &[u16], k: &Numbers) -> Result<Node, Refused> {
+    let mut at = 0;
+    let root = node(arities, list, &mut at, k)?;
+    if at < list.len() {
+        return Err((k.extra, at as u64));
+    }
+    Ok(root)
+}
+
+fn write_row(t: &Node, row: &mut Vec<u16>) {
+    row.push(t.symbol);
+    for c in &t.children {
+        write_row(c, row);
+    }
+}
+
+fn row_of(t: &Node) -> Vec<u16> {
+    let mut row = vec![];
+    write_row(t, &mut row);
+    row
+}
+
+fn write_ends(t: &Node, at: usize, table: &mut Vec<u16>) -> usize {
+    table.push(0);
+    let mut end = at + 1;
+    for c in &t.children {
+        end = write_ends(c, end, table);
+    }
+    table[at] = end as u16;
+    end
+}
+
+fn table_of(t: &Node) -> Vec<u16> {
+    let mut table = vec![];
+    write_ends(t, 0, &mut table);
+    table
+}
+
+// All subtrees, in the order of their positions.
+fn subtrees<'a>(t: &'a Node, all: &mut Vec<&'a Node>) {
+    all.push(t);
+    for c in &t.children {
+        subtrees(c, all);
+    }
+}
+
+fn equal(a: &Node, b: &Node) -> bool {
+    a.symbol == b.symbol && a.children.len() == b.children.len() && a.children.iter().zip(&b.children).all(|(x, y)| equal(x, y))
+}
+
+fn fits<'a>(p: &Node, t: &'a Node, chosen: &mut [Option<&'a Node>; 16]) -> bool {
+    if p.symbol == BLANK {
+        return true;
+    }
+    if let Some(v) = variable(p.symbol) {
+        return match chosen[v] {
+            Some(u) => equal(u, t),
+            None => {
+                chosen[v] = Some(t);
+                true
+            }
+        };
+    }
+    p.symbol == t.symbol && p.children.len() == t.children.len() && p.children.iter().zip(&t.children).all(|(x, y)| fits(x, y, chosen))
+}
+
+fn positions(p: &Node, t: &Node) -> Vec<u16> {
+    let mut all = vec![];
+    subtrees(t, &mut all);
+    (0..all.len()).filter(|&i| fits(p, all[i], &mut [None; 16])).map(|i| i as u16).collect()
+}
+
+// The tree with the subtree at position p replaced; `at` counts the nodes that were passed.
+fn put(t: &Node, p: usize, u: &Node, at: &mut usize) -> Node {
+    let here = *at;
+    *at += 1;
+    let children = t.children.iter().map(|c| put(c, p, u, at)).collect();
+    if here == p {
+        u.clone()
+    } else {
+        Node { symbol: t.symbol, children }
+    }
+}
+
+fn numbers(bytes: &[u8]) -> Vec<u16> {
+    bytes.chunks_exact(2).map(|b| b[0] as u16 + 256 * b[1] as u16).collect()
+}
+
+fn bytes(numbers: &[u16]) -> Vec<u8> {
+    numbers.iter().flat_map(|n| [(n % 256) as u8, (n / 256) as u8]).collect()
+}
+
+fn store(buffer: &mut [u8], from: usize, list: &[u16]) {
+    buffer[2 * from..2 * (from + list.len())].copy_from_slice(&bytes(list));
+}
+
+fn alphabet_fault(arities: &[u16]) -> Result<(), Refused> {
+    if arities.is_empty() || arities.len() > 1024 {
+        return Err((1, arities.len() as u64));
+    }
+    if let Some(k) = arities.iter().position(|&a| a > 15) {
+        return Err((2, k as u64));
+    }
+    if !arities.contains(&0) {
+        return Err((3, 0));
+    }
+    Ok(())
+}
+
+// What is lent to a call, and, after it, what the buffers hold.
+#[derive(Clone, Default, PartialEq)]
+struct Lent {
+    arities: Vec<u8>,
+    row: Vec<u8>,
+    table: Vec<u8>,
+    other: Vec<u8>, // pattern or replacement
+    out: Vec<u8>,
+    length: u64,
+    position: u64,
+}
+
+#[derive(Clone, Copy, PartialEq, Debug, Default)]
+struct Answer {
+    refusal: u32,
+    change: i32,
+    place: u64,
+    count: u64,
+}
+
+// Refusals 1 to 9, and the tree of the row of the first n numbers.
+fn row_tree(x: &Lent, n: u64, room: usize) -> Result<(Vec<u16>, Node), Refused> {
+    let arities = numbers(&x.arities);
+    alphabet_fault(&arities)?;
+    size_fault(n, &ROW)?;
+    if (room as u64) < n {
+        return Err((6, n));
+    }
+    let t = tree(&arities, &numbers(&x.row)[..n as usize], &ROW)?;
+    Ok((arities, t))
+}
+
+// Refusal 10.
+fn stale(x: &Lent, t: &Node) -> Result<(), Refused> {
+    let table = numbers(&x.table);
+    match table_of(t).iter().zip(&table).position(|(e, g)| e != g) {
+        Some(p) => Err((10, p as u64)),
+        None => Ok(()),
+    }
+}
+
+fn model_build(x: &mut Lent) -> Result<Answer, Refused> {
+    let n = x.row.len() / 2;
+    let (_, t) = row_tree(x, n as u64, x.table.len() / 2)?;
+    store(&mut x.table, 0, &table_of(&t));
+    Ok(Answer { count: n as u64, ..Answer::default() })
+}
+
+fn model_find(x: &mut Lent) -> Result<Answer, Refused> {
+    let (arities, t) = row_tree(x, x.row.len() as u64 / 2, x.table.len() / 2)?;
+    stale(x, &t)?;
+    let list = numbers(&x.other);
+    size_fault(list.len() as u64, &PATTERN)?;
+    let found = positions(&tree(&arities, &list, &PATTERN)?, &t);
+    if x.out.len() / 2 < found.len() {
+        return Err((19, found.len() as u64));
+    }
+    store(&mut x.out, 0, &found);
+    Ok(Answer { count: found.len() as u64, ..Answer::default() })
+}
+
+fn model_replace(x: &mut Lent) -> Result<Answer, Refused> {
+    let room = (x.row.len() / 2).min(x.table.len() / 2);
+    let (arities, t) = row_tree(x, x.length, room)?;
+    stale(x, &t)?;
+    let list = numbers(&x.other);
+    size_fault(list.len() as u64, &REPLACEMENT)?;
+    let u = tree(&arities, &list, &REPLACEMENT)?;
+    if x.position >= x.length {
+        return Err((17, x.position));
+    }
+    let new = put(&t, x.position as usize, &u, &mut 0);
+    let row = row_of(&new);
+    let (old, m) = (x.length as usize, row.len());
+    if m > MOST || m > room {
+        return Err((18, m as u64));
+    }
+    store(&mut x.row, 0, &row);
+    store(&mut x.table, 0, &table_of(&new));
+    for free in m..old {
+        store(&mut x.row, free, &[65535]);
+        store(&mut x.table, free, &[0]);
+    }
+    Ok(Answer { change: m as i32 - old as i32, count: m as u64, ..Answer::default() })
+}
+
+// ---- the archive, behind its server ----------------------------------------------------------------------------------------
+
+const BUILD: u32 = 1;
+const FIND: u32 = 2;
+const REPLACE: u32 = 3;
+
+struct Server {
+    child: Child,
+    to: ChildStdin,
+    from: ChildStdout,
+}
+
+impl Server {
+    fn start(words: &[String]) -> Server {
+        let mut child = Command::new(&words[0]).args(&words[1..]).stdin(Stdio::piped()).stdout(Stdio::piped()).spawn().expect("the server starts");
+        let to = child.stdin.take().unwrap();
+        let from = child.stdout.take().unwrap();
+        Server { child, to, from }
+    }
+
+    // The answer, and whether a byte changed that no call may change; the buffers are as the call left them.
+    fn call(&mut self, call: u32, shift: u32, x: &mut Lent) -> (Answer, bool) {
+        let lists = [&x.arities, &x.row, &x.table, &x.other, &x.out];
+        let mut q = vec![];
+        q.extend(call.to_le_bytes());
+        q.extend(shift.to_le_bytes());
+        q.extend(x.length.to_le_bytes());
+        q.extend(x.position.to_le_bytes());
+        lists.iter().for_each(|l| q.extend((l.len() as u32).to_le_bytes()));
+        lists.iter().for_each(|l| q.extend(l.iter()));
+        self.to.write_all(&q).expect("the server reads");
+        let mut a = vec![0u8; 28 + x.row.len() + x.table.len() + x.out.len()];
+        self.from.read_exact(&mut a).expect("the server answers");
+        let word = |i: usize| u32::from_le_bytes([a[i], a[i + 1], a[i + 2], a[i + 3]]);
+        let long = |i: usize| word(i) as u64 + ((word(i + 4) as u64) << 32);
+        let answer = Answer { refusal: word(0), change: word(4) as i32, place: long(8), count: long(16) };
+        let damage = word(24) != 0;
+        let (r, t) = (28 + x.row.len(), 28 + x.row.len() + x.table.len());
+        x.row.copy_from_slice(&a[28..r]);
+        x.table.copy_from_slice(&a[r..t]);
+        x.out.copy_from_slice(&a[t..]);
+        (answer, damage)
+    }
+}
+
+// ---- random inputs ---------------------------------------------------------------------------------------------------------
+
+struct Dice(u64);
+
+impl Dice {
+    fn next(&mut self) -> u64 {
+        self.0 = self.0.wrapping_add(0x9E3779B97F4A7C15);
+        let mut z = self.0;
+        z = (z ^ (z >> 30)).wrapping_mul(0xBF58476D1CE4E5B9);
+        z = (z ^ (z >> 27)).wrapping_mul(0x94D049BB133111EB);
+        z ^ (z >> 31)
+    }
+
+    fn below(&mut self, n: usize) -> usize {
+        (self.next() % n as u64) as usize
+    }
+
+    fn one_in(&mut self, n: usize) -> bool {
+        self.below(n) == 0
+    }
+
+    fn pick<T: Copy>(&mut self, list: &[T]) -> T {
+        list[self.below(list.len())]
+    }
+
+    // A good alphabet: symbol 0 is a leaf, symbol 1 has one child, the others have few or, now and then, up to 15.
+    fn alphabet(&mut self) -> Vec<u16> {
+        let n = if self.one_in(60) { 1024 } else { 2 + self.below(5) };
+        let most = if self.one_in(8) { 16 } else { 4 };
+        (0..n).map(|k| if k < 2 { k as u16 } else { self.below(most) as u16 }).collect()
+    }
+
+    // A row of at most n symbols over a good alphabet, of just n where `exact`.
+    fn row(&mut self, arities: &[u16], n: usize, exact: bool) -> Vec<u16> {
+        let (mut row, mut open) = (vec![], 1);
+        while open > 0 {
+            let left = n - row.len();
+            let mut s = self.below(arities.len());
+            if open - 1 + arities[s] as usize + 1 > left || (open == 1 && arities[s] == 0 && left > 1 && !self.one_in(6)) {
+                s = if open < left && (exact || self.one_in(2)) { 1 } else { 0 };
+            }
+            if exact && arities[s] == 0 && open == 1 && left > 1 {
+                s = 1;
+            }
+            row.push(s as u16);
+            open += arities[s] as usize;
+            open -= 1;
+        }
+        row
+    }
+
+    fn length(&mut self) -> usize {
+        match self.below(400) {
+            0 => MOST,
+            1 => 1 + self.below(MOST),
+            2..=20 => 1 + self.below(400),
+            _ => 1 + self.below(24),
+        }
+    }
+
+    fn good_row(&mut self, arities: &[u16]) -> Vec<u16> {
+        let n = self.length();
+        let exact = self.one_in(3) || n == MOST;
+        self.row(arities, n, exact)
+    }
+
+    // One fault, or none that shows.
+    fn damage(&mut self, list: &mut Vec<u16>, symbols: usize) {
+        let n = list.len();
+        match self.below(6) {
+            0 => list.truncate(self.below(n + 1)),
+            1 => list.push(self.below(symbols + 2) as u16),
+            2 if n > 0 => {
+                let k = self.below(n);
+                list[k] = self.pick(&[0, 1, symbols as u16, 65279, 65280, 65295, 65296, 65534, 65535, 300]);
+            }
+            3 if n > 1 => {
+                let (i, j) = (self.below(n), self.below(n));
+                list.swap(i, j);
+            }
+            4 if n > 0 => {
+                let k = self.below(n);
+                list.remove(k);
+            }
+            _ => list.insert(self.below(n + 1), self.below(symbols + 1) as u16),
+        }
+    }
+
+    fn bad_alphabet(&mut self, arities: &mut Vec<u16>) {
+        match self.below(5) {
+            0 => arities.clear(),
+            1 => arities.resize(1025 + self.below(3), 16),
+            2 | 3 => {
+                let k = self.below(arities.len());
+                arities[k] = self.pick(&[16, 15, 17, 256, 65535]);
+            }
+            _ => arities.iter_mut().for_each(|a| *a = (*a).max(1)),
+        }
+    }
+
+    // The list as bytes, with an odd last byte now and then.
+    fn lend(&mut self, list: &[u16]) -> Vec<u8> {
+        let mut b = bytes(list);
+        if self.one_in(3) {
+            b.push(self.below(256) as u8);
+        }
+        b
+    }
+
+    // A buffer that begins with the list, with `more` further bytes.
+    fn buffer(&mut self, list: &[u16], more: usize) -> Vec<u8> {
+        let mut b = bytes(list);
+        b.extend((0..more).map(|_| self.next() as u8));
+        b
+    }
+
+    // A pattern made of a subtree of the row: some of its subtrees become blanks or variables, equal ones often the same.
+    fn pattern(&mut self, arities: &[u16], row: &[u16], table: &[u16]) -> Vec<u16> {
+        let p = if row.len() < 300 { self.below(row.len()) } else { row.len() - 1 - self.below(300) };
+        let (mut q, mut i, end) = (vec![], p, table[p] as usize);
+        let chance = 2 + self.below(8);
+        let mut seen: Vec<(&[u16], u16)> = vec![];
+        while i < end {
+            let part = &row[i..table[i] as usize];
+            if self.one_in(chance) {
+                let known = seen.iter().find(|(x, _)| *x == part).map(|(_, v)| *v);
+                let v = match known {
+                    Some(v) if !self.one_in(4) => v,
+                    _ => self.pick(&[BLANK, 65280, 65281, 65282, 65295]),
+                };
+                seen.push((part, v));
+                q.push(v);
+                i += part.len();
+            } else {
+                q.push(row[i]);
+                i += 1;
+            }
+        }
+        if q.len() > 256 && !self.one_in(4) {
+            q = vec![arities.iter().position(|&a| a == 1).unwrap_or(0) as u16, BLANK];
+        }
+        q
+    }
+}
+
+// ---- the test --------------------------------------------------------------------------------------------------------------
+
+struct Test {
+    server: Server,
+    dice: Dice,
+    seed: u64,
+    input: u64,
+    answered: u64,
+    refused: [u64; 30],
+}
+
+fn shown(b: &[u8]) -> String {
+    let n = numbers(b);
+    let short: Vec<String> = n.iter().take(60).map(|x| x.to_string()).collect();
+    format!("{} bytes: {}{}", b.len(), short.join(" "), if n.len() > 60 { " .." } else { "" })
+}
+
+impl Test {
+    // One input: the archive and the model answer alike and leave the same bytes. The buffers are as the call left them.
+    fn hold(&mut self, call: u32, x: &mut Lent) -> Result<Answer, String> {
+        self.input += 1;
+        let given = x.clone();
+        let mut wanted = x.clone();
+        let told = match call {
+            BUILD => model_build(&mut wanted),
+            FIND => model_find(&mut wanted),
+            _ => model_replace(&mut wanted),
+        };
+        let want = told.unwrap_or_else(|(refusal, place)| Answer { refusal, place, ..Answer::default() });
+        let shift = self.dice.below(2) as u32;
+        let (got, damage) = self.server.call(call, shift, x);
+        if want.refusal == 0 {
+            self.answered += 1;
+        } else {
+            self.refused[want.refusal as usize] += 1;
+        }
+        if got == want && *x == wanted && !damage {
+            return Ok(got);
+        }
+        let mut s = format!("FAILED: seed {}, input {}, call {}\n", self.seed, self.input, ["", "build", "find", "replace"][call as usize]);
+        s += &format!("  arities {}\n  row {}\n  table {}\n", shown(&given.arities), shown(&given.row), shown(&given.table));
+        s += &format!("  pattern or replacement {}\n  output {}\n", shown(&given.other), shown(&given.out));
+        s += &format!("  row length {}, position {}\n  wanted {:?}\n  got    {:?}\n", given.length, given.position, want, got);
+        s += &format!("  row {}, table {}, output {}, other bytes {}", x.row == wanted.row, x.table == wanted.table, x.out == wanted.out, !damage);
+        Err(s)
+    }
+
+    fn builds(&mut self) -> Result<(), String> {
+        let d = &mut self.dice;
+        let mut arities = d.alphabet();
+        let mut row = if d.one_in(300) { vec![1; MOST + d.below(3)] } else { d.good_row(&arities) };
+        if d.one_in(3) {
+            d.damage(&mut row, arities.len());
+        }
+        if d.one_in(12) {
+            d.bad_alphabet(&mut arities);
+        }
+        let more = d.pick(&[0, 0, 1, 2, 3, 40]);
+        let mut table = d.buffer(&vec![7; row.len()], more);
+        if d.one_in(12) {
+            table.truncate(table.len().saturating_sub(1 + more + d.below(4)));
+        }
+        let mut x = Lent { arities: d.lend(&arities), row: d.lend(&row), table, ..Lent::default() };
+        self.hold(BUILD, &mut x).map(|_| ())
+    }
+
+    // A row with its table, mostly good; where it is, its tree.
+    fn kept(&mut self) -> (Vec<u16>, Vec<u16>, Vec<u16>, bool) {
+        let d = &mut self.dice;
+        let mut arities = d.alphabet();
+        let mut row = d.good_row(&arities);
+        let mut table = table_of(&tree(&arities, &row, &ROW).ok().expect("a good row"));
+        let mut good = true;
+        if d.one_in(16) {
+            good = false;
+            d.damage(&mut row, arities.len());
+            table.resize(row.len(), 1);
+        }
+        if d.one_in(24) {
+            good = false;
+            d.bad_alphabet(&mut arities);
+        }
+        if d.one_in(16) && !table.is_empty() {
+            good = false;
+            let k = d.below(table.len());
+            table[k] = table[k].wrapping_add(d.pick(&[1, 65535, 256, 3]));
+        }
+        (arities, row, table, good)
+    }
+
+    fn finds(&mut self) -> Result<(), String> {
+        let (arities, row, table, good) = self.kept();
+        let d = &mut self.dice;
+        let mut pattern = if good && !d.one_in(6) { d.pattern(&arities, &row, &table) } else { vec![BLANK] };
+        if d.one_in(10) {
+            d.damage(&mut pattern, arities.len());
+        }
+        if d.one_in(200) {
+            pattern = vec![1; d.pick(&[255, 256, 257, 300])];
+            if pattern.len() < 257 {
+                pattern.push(BLANK);
+            }
+        }
+        let more = d.pick(&[0, 0, 1, 2, 9]);
+        let mut x = Lent { arities: d.lend(&arities), row: d.lend(&row), table: d.buffer(&table, more), other: d.lend(&pattern), ..Lent::default() };
+        if d.one_in(20) {
+            x.table.truncate(x.table.len().saturating_sub(1 + d.below(3)));
+        }
+        let found = model_find(&mut Lent { out: vec![0; 2 * row.len() + 2], ..x.clone() }).map_or(3, |a| a.count as usize);
+        let d = &mut self.dice;
+        let places = d.pick(&[2 * found, 2 * found, 2 * found + 1, 2 * found + 8, (2 * found).saturating_sub(1), 2 * MOST + 11, 0]);
+        x.out = d.buffer(&[], places);
+        self.hold(FIND, &mut x).map(|_| ())
+    }
+
+    fn replaces(&mut self) -> Result<(), String> {
+        let (arities, row, table, good) = self.kept();
+        let d = &mut self.dice;
+        let mut v = if good { d.good_row(&arities) } else { vec![0] };
+        if d.one_in(12) {
+            d.damage(&mut v, arities.len().max(1));
+        }
+        if d.one_in(300) {
+            v = vec![0; MOST + 1 + d.below(3)];
+        }
+        let p = if d.one_in(20) { row.len() + d.below(3) } else { d.below(row.len().max(1)) };
+        let m = if good && p < row.len() { row.len() + v.len() - (table[p] as usize - p) } else { row.len() };
+        let spare = |d: &mut Dice| d.pick(&[0, 0, 1, 2, 3, 500]) + 2 * m.saturating_sub(row.len()) - if d.one_in(8) && m > row.len() { 1 } else { 0 };
+        let (more_row, more_table) = (spare(d), spare(d));
+        let mut length = row.len() as u64;
+        if d.one_in(30) {
+            length = d.pick(&[0, length + 1, length + 2, 16385, 65536, 1 << 40, u64::MAX, length.saturating_sub(1)]);
+        }
+        let position = if d.one_in(60) { d.pick(&[65536, 1 << 32, u64::MAX]) } else { p as u64 };
+        let mut x = Lent { arities: d.lend(&arities), row: d.buffer(&row, more_row), table: d.buffer(&table, more_table), other: d.lend(&v), length, position, ..Lent::default() };
+        self.hold(REPLACE, &mut x).map(|_| ())
+    }
+
+    // A run of replacements in one pair of buffers, refused ones among them, and then all of them put back.
+    fn runs(&mut self) -> Result<(), String> {
+        let d = &mut self.dice;
+        let arities = d.alphabet();
+        let row = d.good_row(&arities);
+        let table = table_of(&tree(&arities, &row, &ROW).ok().expect("a good row"));
+        let more = 2 * d.below(200);
+        let mut x = Lent { arities: d.lend(&arities), row: d.buffer(&row, more + 1), table: d.buffer(&table, more), length: row.len() as u64, ..Lent::default() };
+        let mut undo: Vec<(u64, Vec<u16>)> = vec![];
+        for _ in 0..1 + self.dice.below(20) {
+            let d = &mut self.dice;
+            let p = d.below(x.length as usize);
+            let (now, ends) = (numbers(&x.row), numbers(&x.table));
+            let old = now[p..ends[p] as usize].to_vec();
+            let exact = d.one_in(2);
+            let n = 1 + d.below(40);
+            let v = if d.one_in(15) { vec![d.below(9) as u16] } else { d.row(&arities, n, exact) };
+            x.other = d.lend(&v);
+            x.position = p as u64;
+            let a = self.hold(REPLACE, &mut x)?;
+            if a.refusal == 0 {
+                undo.push((p as u64, old));
+                x.length = a.count;
+            }
+        }
+        while let Some((p, old)) = undo.pop() {
+            x.other = self.dice.lend(&old);
+            x.position = p;
+            let a = self.hold(REPLACE, &mut x)?;
+            if a.refusal != 0 {
+                return Err(format!("FAILED: seed {}, input {}: putting back was refused", self.seed, self.input));
+            }
+            x.length = a.count;
+        }
+        if numbers(&x.row)[..row.len()] != row[..] || numbers(&x.table)[..row.len()] != table[..] || x.length != row.len() as u64 {
+            return Err(format!("FAILED: seed {}, input {}: putting all back did not bring the row back", self.seed, self.input));
+        }
+        Ok(())
+    }
+}
+
+fn number(words: &mut Vec<String>, flag: &str, default: u64) -> u64 {
+    match words.iter().position(|w| w == flag) {
+        Some(i) => {
+            let n = words[i + 1].parse().expect("a number");
+            words.drain(i..i + 2);
+            n
+        }
+        None => default,
+    }
+}
+
+fn test() -> bool {
+    let mut words: Vec<String> = std::env::args().skip(1).collect();
+    let seed = number(&mut words, "--seed", 20260101);
+    let inputs = number(&mut words, "--inputs", 100_000);
+    let mut t = Test { server: Server::start(&words), dice: Dice(seed), seed, input: 0, answered: 0, refused: [0; 30] };
+    let kinds: [(&str, fn(&mut Test) -> Result<(), String>); 4] =
+        [("build", Test::builds), ("find", Test::finds), ("replace", Test::replaces), ("runs of replacements, put back", Test::runs)];
+    let (mut passed, mut failed) = (0, 0);
+    for (i, (name, kind)) in kinds.iter().enumerate() {
+        let until = inputs * (i as u64 + 1) / kinds.len() as u64;
+        let mut fault = None;
+        while t.input < until && fault.is_none() {
+            fault = kind(&mut t).err();
+        }
+        match fault {
+            None => passed += 1,
+            Some(s) => {
+                println!("{name}\n{s}");
+                failed += 1;
+                t.input = until;
+            }
+        }
+    }
+    drop(t.server.to);
+    if t.server.child.wait().map_or(false, |s| s.success()) {
+        passed += 1;
+    } else {
+        println!("FAILED: the server did not end well");
+        failed += 1;
+    }
+    let all = [1, 2, 3, 4, 5, 6, 7, 8, 9, 10, 11, 12, 13, 14, 15, 17, 18, 19, 24, 25, 27, 28, 29];
+    match all.iter().find(|&&r| t.refused[r] == 0) {
+        None => passed += 1,
+        Some(r) => {
+            println!("FAILED: seed {seed}: no input was refused with {r}");
+            failed += 1;
+        }
+    }
+    let told: Vec<String> = all.iter().map(|&r| format!("{r}: {}", t.refused[r])).collect();
+    println!("seed {seed}: {} inputs, {} answered, refused by number {}", t.input, t.answered, told.join(", "));
+    println!("{passed} passed, {failed} failed");
+    failed == 0
+}
+
+fn main() {
+    // the longest chain is 16,384 nodes deep, and the model walks it by recursion
+    let run = std::thread::Builder::new().stack_size(1 << 28).spawn(test).expect("a thread");
+    std::process::exit(if run.join().unwrap_or(false) { 0 } else { 1 });
+}
