@@ -1,7 +1,7 @@
 // Find and replace on lent bytes, by copies of their numbers.
 mod copies;
-mod find;
-mod replace;
+mod edit;
+mod search;
 
-pub use find::find;
-pub use replace::replace;
+pub use edit::replace;
+pub use search::find;

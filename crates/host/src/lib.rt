@@ -35,5 +35,12 @@ pub extern "C" fn sparrowhem_replace(
 ) -> Answer
     ensures { λ r. ⌜ ReplacedBytes (numbers (now (arities .entry))) (now (row .entry)) (now (table .entry)) «row_length» (numbers (now (replacement .entry))) position r (now (row .exit)) (now (table .exit)) ⌝ }
 {
-    copied::replace(arities, row, table, row_length as usize, replacement, position as usize)
+    copied::replace(
+        arities,
+        row,
+        table,
+        row_length as usize,
+        replacement,
+        position as usize,
+    )
 }

@@ -3,12 +3,12 @@ ghost use mathlib.Core.Path.{_≡_};
 ghost use Rattle.lent.specs.Answer.{refused};
 use rows::Refusal;
 
-mod build;
 mod fill;
 mod scan;
+mod table;
 
-pub use build::build;
 pub use scan::check_sizes;
+pub use table::build;
 
 // An answer, as it crosses. `refusal` is 0 or document 01's number.
 #[repr(C)]

@@ -8,8 +8,8 @@ use lib.Seq.{length-take-le}
 use Rattle.copied.proofs.Found.{Searched, found-refused, found-fits, found-matches}
 use native.Mathlib.Omega.{arith}
 use borrow.Author.Needs.{needs}
-use Rattle.copied.proofs.find.find_out.Statement.{statement}
-use Rattle.copied.proofs.find.find_out.Tie as tie
+use Rattle.copied.proofs.search.find_out.Statement.{statement}
+use Rattle.copied.proofs.search.find_out.Tie as tie
 
 module _ (f : tie.After-find) where
   abbrev start : tie.Start

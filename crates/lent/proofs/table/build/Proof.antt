@@ -16,8 +16,8 @@ use Rattle.sparrowhem.specs.Build.{buildCheck}
 use Rattle.sparrowhem.proofs.Building.{build-fillable}
 use Rattle.lent.specs.Answer.{answered}
 use borrow.Author.Needs.{needs}
-use Rattle.lent.proofs.build.build.Statement.{statement}
-use Rattle.lent.proofs.build.build.Tie as tie
+use Rattle.lent.proofs.table.build.Statement.{statement}
+use Rattle.lent.proofs.table.build.Tie as tie
 
 module _ (b : tie.After-check-build) where
   abbrev start : tie.Start

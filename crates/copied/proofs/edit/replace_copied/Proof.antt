@@ -6,8 +6,8 @@ use Rattle.copied.proofs.Editing.{edited-copied}
 use native.Mathlib.Omega.{arith}
 use lib.ListN.{length-take}
 use borrow.Author.Needs.{needs}
-use Rattle.copied.proofs.replace.replace_copied.Statement.{statement}
-use Rattle.copied.proofs.replace.replace_copied.Tie as tie
+use Rattle.copied.proofs.edit.replace_copied.Statement.{statement}
+use Rattle.copied.proofs.edit.replace_copied.Tie as tie
 
 count-requires : tie.Need-count-requires
 count-requires c κs = search needs

@@ -12,8 +12,8 @@ use Rattle.wire.specs.Wire.{numbers}
 use Rattle.sparrowhem.specs.Build.{buildCheck}
 use Rattle.lent.proofs.Checks.{build-after, build-most}
 use borrow.Author.Needs.{needs}
-use Rattle.lent.proofs.build.check_build.Statement.{statement}
-use Rattle.lent.proofs.build.check_build.Tie as tie
+use Rattle.lent.proofs.table.check_build.Statement.{statement}
+use Rattle.lent.proofs.table.check_build.Tie as tie
 
 module _ (s : tie.After-check-sizes) where
   abbrev start : tie.Start

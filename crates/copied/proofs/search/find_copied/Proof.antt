@@ -10,8 +10,8 @@ use Rattle.copied.proofs.Copying.{copy-whole, copy-length}
 use Rattle.copied.proofs.Cut.{found-copied}
 use native.Mathlib.Omega.{arith}
 use borrow.Author.Needs.{needs}
-use Rattle.copied.proofs.find.find_copied.Statement.{statement}
-use Rattle.copied.proofs.find.find_copied.Tie as tie
+use Rattle.copied.proofs.search.find_copied.Statement.{statement}
+use Rattle.copied.proofs.search.find_copied.Tie as tie
 
 module _ (b : tie.After-pattern-of) where
   abbrev start : tie.Start

@@ -17,8 +17,8 @@ use Rattle.lent.specs.Answer.{refusedBy}
 use Rattle.copied.proofs.Checks.{copyable, search-after}
 use Rattle.copied.proofs.Found.{find-refused, find-long}
 use borrow.Author.Needs.{needs}
-use Rattle.copied.proofs.find.find.Statement.{statement}
-use Rattle.copied.proofs.find.find.Tie as tie
+use Rattle.copied.proofs.search.find.Statement.{statement}
+use Rattle.copied.proofs.search.find.Tie as tie
 
 module _ (b : tie.After-check-sizes) where
   abbrev start : tie.Start

@@ -12,8 +12,8 @@ use Rattle.copied.proofs.Copying.{copy-length}
 use Rattle.copied.proofs.Editing.{Edited, edited-refused, edited-done}
 use native.Mathlib.Omega.{arith}
 use borrow.Author.Needs.{needs}
-use Rattle.copied.proofs.replace.replace_in.Statement.{statement}
-use Rattle.copied.proofs.replace.replace_in.Tie as tie
+use Rattle.copied.proofs.edit.replace_in.Statement.{statement}
+use Rattle.copied.proofs.edit.replace_in.Tie as tie
 
 module _ (f : tie.After-replace) where
   abbrev start : tie.Start

@@ -16,8 +16,8 @@ use Rattle.lent.specs.Answer.{refusedBy}
 use Rattle.copied.proofs.Checks.{copyable, replace-after}
 use Rattle.copied.proofs.Editing.{replace-refused, replace-long}
 use borrow.Author.Needs.{needs}
-use Rattle.copied.proofs.replace.replace.Statement.{statement}
-use Rattle.copied.proofs.replace.replace.Tie as tie
+use Rattle.copied.proofs.edit.replace.Statement.{statement}
+use Rattle.copied.proofs.edit.replace.Tie as tie
 
 module _ (b : tie.After-check-sizes) where
   abbrev start : tie.Start
