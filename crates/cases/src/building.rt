@@ -1,4 +1,8 @@
 // Build: worked programmes 1, 9 and 11, and what the order of the refusals decides.
+use crate::lists::chain;
+use crate::lists::fewer;
+use crate::lists::leaves;
+use crate::lists::zeros;
 use crate::printing::check;
 use crate::printing::list;
 use crate::printing::title;
@@ -54,20 +58,19 @@ pub fn alphabets() {
 
 // The answer alone, for a table with room for the longest row.
 fn longest(arities: &[u16], row: &[u16]) {
-    let mut table = [0u16; 16384];
+    let mut table = zeros();
     check(sparrowhem::build(arities, row, &mut table));
 }
 
 // The same for a table that has one place less.
 fn one_short(arities: &[u16], row: &[u16]) {
-    let mut table = [0u16; 16383];
+    let mut table = fewer();
     check(sparrowhem::build(arities, row, &mut table));
 }
 
 pub fn rows() {
     title(b"build: 16,384 symbols and 16,385, with room for 16,384 and for one less");
-    let mut row = [1u16; 16385];
-    row[16383] = 0;
+    let row = chain();
     longest(&[0u16, 1], &row[0..16384]);
     one_short(&[0u16, 1], &row[0..16384]);
     longest(&[0u16, 1], &row);
@@ -76,7 +79,7 @@ pub fn rows() {
 
 pub fn symbols() {
     title(b"build: 1,024 symbols in the alphabet and 1,025");
-    let arities = [0u16; 1025];
+    let arities = leaves();
     longest(&arities[0..1024], &[1023u16]);
     longest(&arities[0..1024], &[1024u16]);
     longest(&arities, &[0u16]);

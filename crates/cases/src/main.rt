@@ -2,6 +2,7 @@
 // what the call leaves in its buffers.
 mod building;
 mod handing;
+mod lists;
 mod printing;
 mod replacing;
 mod searching;

@@ -1,4 +1,6 @@
 // Replace: worked programmes 7 and 8, buffers with just room, the sizes at their limits, and the refusals.
+use crate::lists::ends;
+use crate::lists::ones;
 use crate::printing::list;
 use crate::printing::number;
 use crate::printing::refusal;
@@ -117,9 +119,9 @@ pub fn refusals() {
 // A chain of 16,383 symbols whose last gives way to `1 0`, and the new row's last to the same; then the root to a leaf.
 pub fn limits() {
     title(b"replace: from 16,383 symbols to 16,384, and no further; from there to 1");
-    let mut row = [1u16; 16385];
+    let mut row = ones();
     row[16382] = 0;
-    let mut table = [16383u16; 16385];
+    let mut table = ends();
     answered(
         sparrowhem::replace(&[0u16, 1], &mut row, &mut table, 16383, &[1u16, 0], 16382),
         1,
