@@ -14,11 +14,13 @@ kit_cc() {
         "$kit_own/bin/rattle-link" --target $kit_target --toolchain "$kit_tools" -o "$kit_out" "$kit_out.o" target/staticlib/libhost.a
 }
 
-# kit_run PROGRAM [WORD..]: runs it, by the kit's emulator where the machine is another.
+# kit_words: the words that run an x86-64 program, which stands behind them: by the kit's emulator where the machine is another.
+kit_words() {
+    if [ -x "$kit_tools/bin/qemu-x86_64" ]; then echo "$kit_tools/bin/qemu-x86_64"; fi
+    echo "$kit_tools/lib/ld-linux-x86-64.so.2" --library-path "$kit_tools/lib"
+}
+
+# kit_run PROGRAM [WORD..]: runs it.
 kit_run() {
-    if [ -x "$kit_tools/bin/qemu-x86_64" ]; then
-        "$kit_tools/bin/qemu-x86_64" "$kit_tools/lib/ld-linux-x86-64.so.2" --library-path "$kit_tools/lib" "$@"
-    else
-        "$kit_tools/lib/ld-linux-x86-64.so.2" --library-path "$kit_tools/lib" "$@"
-    fi
+    $(kit_words) "$@"
 }

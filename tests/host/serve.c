@@ -88,6 +88,9 @@ int main(void) {
             memcpy(next, list[i], q.bytes[i]);
             next += q.bytes[i];
         }
+#ifdef WRONG /* a server whose answers have one wrong bit, in that byte or in the last: the test must notice */
+        answer[answer + WRONG < next ? WRONG : next - answer - 1] ^= 1;
+#endif
         if (!give(answer, (size_t)(next - answer))) return 1;
     }
     return 0;

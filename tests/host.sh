@@ -1,0 +1,84 @@
+#!/usr/bin/env bash
+# The archive for C from the host's side: its header, the example, a C program of checks, and random inputs held against an
+# independent model. The C programs are for x86-64, compiled by the Rattle kit alone; on Arm they run under the kit's emulator.
+# The random inputs go by a seed; SEED and INPUTS in the environment set them.
+# needs: gcc rustc
+set -u
+cd "$(dirname "$0")/.." || exit 2
+. host/kit.sh
+out=target/host
+log=$out/log
+passed=0
+failed=0
+mkdir -p $out
+
+# try NAME COMMAND..: one test, passed if the command ends well.
+try() {
+    local name=$1
+    shift
+    if "$@" >$log 2>&1; then
+        passed=$((passed + 1))
+    else
+        failed=$((failed + 1))
+        cat $log
+        echo "FAILED $name"
+    fi
+}
+
+# counted NAME COMMAND..: a program of tests, whose last line is `N passed, M failed`.
+counted() {
+    local name=$1 status last
+    shift
+    "$@" 2>&1 | tee $log
+    status=${PIPESTATUS[0]}
+    last=$(tail -n 1 $log)
+    if [[ $last =~ ^([0-9]+)\ passed,\ ([0-9]+)\ failed$ ]] && [ "$status" -eq 0 ]; then
+        passed=$((passed + BASH_REMATCH[1]))
+    else
+        failed=$((failed + 1))
+        echo "FAILED $name (status $status)"
+    fi
+}
+
+# drive SERVER [FLAG..]: the random inputs, against that server.
+drive() {
+    local server=$1
+    shift
+    $out/drive --seed "${SEED:-20260101}" "$@" $(kit_words) "$server"
+}
+
+noticed() { ! drive "$@" >$out/noticed && grep -q '^FAILED: seed' $out/noticed; }
+header_as() { "$@" -Wall -Wextra -Werror -Iinclude -fsyntax-only include/sparrowhem.h; }
+example_as_shown() { kit_run $out/shown | diff tests/host/example.out -; }
+example_installed() {
+    local prefix=$PWD/$out/prefix
+    rm -rf "$prefix"
+    sh host/build.sh "$prefix" && ! grep -q @ "$prefix/lib/pkgconfig/sparrowhem.pc" && $out/example | diff tests/host/example.out - &&
+        gcc -std=c99 -I"$prefix/include" -o $out/installed host/example.c -L"$prefix/lib" -lsparrowhem && $out/installed | diff tests/host/example.out -
+}
+checks_by_gcc() {
+    gcc -std=c99 -pedantic -O2 -Wall -Wextra -Werror -Iinclude -o $out/checks_gcc tests/host/checks.c target/staticlib/libhost.a
+}
+
+try "the archive is proved and built" rt staticlib host
+try "the header is C99" header_as gcc -x c -std=c99 -pedantic
+try "the header is C11" header_as gcc -x c -std=c11 -pedantic
+try "the header is C++" header_as "$kit_tools/bin/clang" --target=$kit_target -nostdinc -isystem host/freestanding -x c++ -std=c++11 -pedantic
+try "the example, compiled by the kit" kit_cc $out/shown host/example.c
+try "the example prints what it should" example_as_shown
+try "the checks, compiled by the kit" kit_cc $out/checks tests/host/checks.c
+counted "the checks" kit_run $out/checks
+if [ "$(uname -m)" = x86_64 ]; then
+    try "the example, by the machine's own compiler and as installed" example_installed
+    try "the checks, compiled by gcc" checks_by_gcc
+    counted "the checks, by gcc" $out/checks_gcc
+fi
+try "the server, compiled by the kit" kit_cc $out/serve tests/host/serve.c
+try "the model and its inputs, compiled by rustc" rustc --edition 2021 -O -D warnings -o $out/drive tests/host/drive.rs
+counted "random inputs" drive $out/serve --inputs "${INPUTS:-100000}"
+for byte in 0 4 8 16 24 28 1000000; do
+    try "a server with a wrong bit at $byte" kit_cc $out/wrong tests/host/serve.c -DWRONG=$byte
+    try "is noticed" noticed $out/wrong --inputs 400
+done
+echo "$passed passed, $failed failed"
+[ "$failed" -eq 0 ]
