@@ -1,6 +1,6 @@
--- What crosses to C fits.
+-- Refusals' numbers as they cross to C.
 -- Assumes nothing.
-use Prim.Native.Nat.{_≤_}
+use Prim.Native.Nat.{ℕ, _≤_, _<_}
 use native.Mathlib.Omega.{arith}
 use Rattle.rows.specs.Refusals.{number, rowNumber, onRecordNumber, patternNumber, replacementNumber}
 use Rattle.rows.specs.declared.Fault.{Fault}
@@ -8,28 +8,31 @@ use Rattle.rows.specs.declared.Fault.the-variants.{Empty, Long, Stray, Early, E
 use Rattle.rows.specs.declared.Refusal.{Refusal}
 use Rattle.rows.specs.declared.Refusal.the-variants.{AlphabetSize, ArityOver, NoLeaf, Row, BufferShort, Stale, OnRecord, OnRecordShort, OnRecordStale, Pattern, Replacement, Position, TooLong, OutputShort, Line, InputLong}
 
--- the numbers of faults and refusals are small
-pub fault-small : (f : Fault) → (rowNumber f ≤ 61) × (onRecordNumber f ≤ 61) × (patternNumber f ≤ 61) × (replacementNumber f ≤ 61)
-fault-small Empty = omega arith
-fault-small (Long n) = omega arith
-fault-small (Stray p) = omega arith
-fault-small (Early n) = omega arith
-fault-small (Extra p) = omega arith
+-- the numbers of faults and refusals are from 1 to 61
+abbrev pub Few : ℕ → Type 0
+Few n = (0 < n) × (n ≤ 61)
 
-pub number-small : (r : Refusal) → number r ≤ 61
-number-small (AlphabetSize n) = omega arith
-number-small (ArityOver s) = omega arith
-number-small NoLeaf = omega arith
-number-small (Row f) = fault-small f .0
-number-small (BufferShort n) = omega arith
-number-small (Stale p) = omega arith
-number-small (OnRecord f) = fault-small f .1
-number-small (OnRecordShort n) = omega arith
-number-small (OnRecordStale p) = omega arith
-number-small (Pattern f) = fault-small f .2
-number-small (Replacement f) = fault-small f .3
-number-small (Position p) = omega arith
-number-small (TooLong n) = omega arith
-number-small (OutputShort n) = omega arith
-number-small (Line k) = omega arith
-number-small InputLong = omega arith
+fault-few : (f : Fault) → Few (rowNumber f) × Few (onRecordNumber f) × Few (patternNumber f) × Few (replacementNumber f)
+fault-few Empty = omega arith
+fault-few (Long n) = omega arith
+fault-few (Stray p) = omega arith
+fault-few (Early n) = omega arith
+fault-few (Extra p) = omega arith
+
+pub number-few : (r : Refusal) → Few (number r)
+number-few (AlphabetSize n) = omega arith
+number-few (ArityOver s) = omega arith
+number-few NoLeaf = omega arith
+number-few (Row f) = fault-few f .0
+number-few (BufferShort n) = omega arith
+number-few (Stale p) = omega arith
+number-few (OnRecord f) = fault-few f .1
+number-few (OnRecordShort n) = omega arith
+number-few (OnRecordStale p) = omega arith
+number-few (Pattern f) = fault-few f .2
+number-few (Replacement f) = fault-few f .3
+number-few (Position p) = omega arith
+number-few (TooLong n) = omega arith
+number-few (OutputShort n) = omega arith
+number-few (Line k) = omega arith
+number-few InputLong = omega arith

@@ -1,7 +1,7 @@
 -- `lent::refusal_of` meets its contract.
 -- Assumes nothing.
 use native.Mathlib.Omega.{arith}
-use Rattle.lent.proofs.Crossing.{number-small}
+use Rattle.lent.proofs.Crossing.{number-few}
 use borrow.Author.Needs.{needs}
 use Rattle.lent.proofs.refusal_of.Statement.{statement}
 use Rattle.lent.proofs.refusal_of.Tie as tie
@@ -10,7 +10,7 @@ number-of-requires : tie.Need-number-of-requires
 number-of-requires c κs = search needs
 
 cast-t3 : tie.Need-cast-t3
-cast-t3 c = omega (arith, c .number-of .ensures, number-small (c .before .args .refusal))
+cast-t3 c = omega (arith, c .number-of .ensures, number-few (c .before .args .refusal))
 
 place-of-requires : tie.Need-place-of-requires
 place-of-requires c κs = search needs
