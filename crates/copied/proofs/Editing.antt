@@ -65,6 +65,11 @@ left-alone A R T n v p r R′ T′ x c e =
       c .table-after ∙ ap (λ (q : Check). after q (renewed T n 0 (ends 0 new)) T) o,
     )
 
+-- written back: the arrays' fronts, whatever stands behind them
+back : (b l l′ z : List ℕ) (i : ℕ) → Bytes b → length l ≡ i → i ≤ length (numbers b) → l′ ≡ written b 0 (bytesOf (take i (l ++ z))) → l′ ≡ written b 0 (bytesOf (written (numbers b) 0 l))
+back b l l′ z i small long fits e =
+    e ∙ ap (λ (x : List ℕ). written b 0 (bytesOf x)) (take-at l z i long) ∙ sym (written-again b l small (omega arith))
+
 module _ {A row table : List ℕ} {n : ℕ} {v : List ℕ} {p : ℕ} (s : Edited A row table n v p) where
   abbrev row-left : List ℕ
   row-left = written (numbers row) 0 (s .w′)
@@ -90,11 +95,6 @@ module _ {A row table : List ℕ} {n : ℕ} {v : List ℕ} {p : ℕ} (s : Edited
         row-bytes = sym (ap (λ (l : List ℕ). written row 0 (bytesOf l)) (same .0) ∙ write-read row (s .row-small));
         table-bytes = sym (ap (λ (l : List ℕ). written table 0 (bytesOf l)) (same .1) ∙ write-read table (s .table-small));
       }
-
-  -- written back: the arrays' fronts, whatever stands behind them
-  back : (b l l′ z : List ℕ) (i : ℕ) → Bytes b → length l ≡ i → i ≤ length (numbers b) → l′ ≡ written b 0 (bytesOf (take i (l ++ z))) → l′ ≡ written b 0 (bytesOf (written (numbers b) 0 l))
-  back b l l′ z i small long fits e =
-      e ∙ ap (λ (x : List ℕ). written b 0 (bytesOf x)) (take-at l z i long) ∙ sym (written-again b l small (omega arith))
 
   pub edited-done : (m : ℕ) (d : ℤ) → s .result ≡ Done m d → (y z row′ table′ : List ℕ) → row′ ≡ written row 0 (bytesOf (take (s .k) (s .w′ ++ y)))
       → table′ ≡ written table 0 (bytesOf (take (s .j) (s .t′ ++ z))) → ReplacedBytes A row table n v p (answered m d) row′ table′

@@ -1,4 +1,4 @@
--- `lent::refusal_of` meets its contract.
+-- `lent::refusal_of` meets its contract. A refusal's number is small.
 -- Assumes nothing.
 use native.Mathlib.Omega.{arith}
 use Rattle.lent.proofs.Crossing.{number-few}

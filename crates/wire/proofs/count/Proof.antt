@@ -1,4 +1,4 @@
--- `wire::count` meets its contract.
+-- `wire::count` meets its contract. Two bytes make a number.
 -- Assumes nothing.
 use native.Mathlib.Omega.{arith}
 use Rattle.wire.proofs.Numbers.{numbers-length}

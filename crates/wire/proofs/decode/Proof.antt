@@ -1,4 +1,4 @@
--- `wire::decode` meets its contract.
+-- `wire::decode` meets its contract. The loop's invariant: `out` has the first i numbers, and then its own from place i on.
 -- Assumes nothing.
 use Prim.Native.Nat.{ℕ, _-_, _≤_}
 use mathlib.Core.Path.{_≡_, refl, ap, ap₂, _∙_}

@@ -1,4 +1,4 @@
--- `wire::encode` meets its contract.
+-- `wire::encode` meets its contract. The loop's invariant: the first i numbers are written to the front.
 -- Assumes nothing.
 use Prim.Native.Nat.{ℕ, _-_, _≤_}
 use mathlib.Core.List.{List}

@@ -1,4 +1,4 @@
--- `wire::number_at` meets its contract.
+-- `wire::number_at` meets its contract. Both bytes are there.
 -- Assumes nothing.
 use Prim.Native.Nat.{_+_, _*_, _<_}
 use mathlib.Core.Path.{sym, _∙_}

@@ -1,4 +1,4 @@
--- `wire::put_number` meets its contract.
+-- `wire::put_number` meets its contract. Both bytes are there.
 -- Assumes nothing.
 use Prim.Native.Nat.{_+_, _*_, _<_}
 use mathlib.Core.Path.{refl}

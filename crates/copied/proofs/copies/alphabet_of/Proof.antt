@@ -1,4 +1,4 @@
--- `copied::alphabet_of` meets its contract.
+-- `copied::alphabet_of` meets its contract. The copy begins with what `decode` wrote.
 -- Assumes nothing.
 use Rattle.wire.specs.Wire.{numbers}
 use Rattle.copied.proofs.Copying.{copy-made}

@@ -1,4 +1,4 @@
--- `copied::check_right` meets its contract.
+-- `copied::check_right` meets its contract. The copies are the lists, the table's up to the row's length, and no entry behind it is looked at.
 -- Assumes nothing.
 use mathlib.Core.Path.{_∙_}
 use Rattle.wire.specs.Wire.{numbers}

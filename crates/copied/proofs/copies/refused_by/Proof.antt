@@ -1,4 +1,4 @@
--- `copied::refused_by` meets its contract.
+-- `copied::refused_by` meets its contract. Each arm of the match knows the check.
 -- Assumes nothing.
 use mathlib.Core.Path.{_∙_}
 use borrow.Author.Needs.{needs}

@@ -1,4 +1,4 @@
--- `copied::replace_copied` meets its contract.
+-- `copied::replace_copied` meets its contract. The copies of alphabet and replacement are the lists.
 -- Assumes nothing.
 use Rattle.wire.specs.Wire.{numbers}
 use Rattle.copied.proofs.Copying.{copy-whole, copy-length}

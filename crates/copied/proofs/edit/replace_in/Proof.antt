@@ -1,6 +1,5 @@
--- `copied::replace_in` meets its contract.
+-- `copied::replace_in` meets its contract. What the call leaves in the copies is written back, and stands before what was not copied.
 -- Assumes nothing.
--- the call on the copies
 use Prim.Native.Nat.{ℕ, _≤_, min}
 use mathlib.Core.Path.{sym, ap, _∙_}
 use mathlib.Core.List.{List}
@@ -15,6 +14,7 @@ use borrow.Author.Needs.{needs}
 use Rattle.copied.proofs.edit.replace_in.Statement.{statement}
 use Rattle.copied.proofs.edit.replace_in.Tie as tie
 
+-- the call on the copies
 module _ (f : tie.After-replace) where
   abbrev start : tie.Start
   start = f .before .before .before .before .before .before .before .before .before .before .before .before .before .before .before .before .before

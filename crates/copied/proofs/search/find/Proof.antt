@@ -1,6 +1,5 @@
--- `copied::find` meets its contract.
+-- `copied::find` meets its contract. Refusals 1 to 6 are told by the sizes, a pattern over its limit once row and table are found right, and the rest by copies.
 -- Assumes nothing.
--- the numbers that the bytes hold, and refusals 1 to 6 on them
 use Prim.Native.Nat.{ℕ}
 use mathlib.Core.Path.{_≡_, sym, ap, ap₂, _∙_}
 use mathlib.Core.List.{List}
@@ -20,6 +19,7 @@ use borrow.Author.Needs.{needs}
 use Rattle.copied.proofs.search.find.Statement.{statement}
 use Rattle.copied.proofs.search.find.Tie as tie
 
+-- the numbers that the bytes hold, and refusals 1 to 6 on them
 module _ (b : tie.After-check-sizes) where
   abbrev start : tie.Start
   start = b .before .before .before .before .before .before .before .before

@@ -1,4 +1,4 @@
--- `lent::fill_table` meets its contract.
+-- `lent::fill_table` meets its contract. The loop's invariant: the numbers are filled in from the row's place p on, and only numbers were written.
 -- Assumes nothing.
 use Prim.Native.Nat.{ℕ, _≤_, _<_, _-_, _+_}
 use mathlib.Core.Path.{_≡_, refl, sym, ap, ap₂, _∙_, subst}

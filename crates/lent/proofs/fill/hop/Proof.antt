@@ -1,4 +1,4 @@
--- `lent::hop` meets its contract.
+-- `lent::hop` meets its contract. The loop's invariant: e is where i hops lead.
 -- Assumes nothing.
 use Prim.Native.Nat.{_≤_, _-_}
 use mathlib.Core.Path.{_≡_, refl, sym, ap, _∙_}

@@ -1,4 +1,4 @@
--- `lent::arity_of` meets its contract.
+-- `lent::arity_of` meets its contract. Past the alphabet's end `getD` gives 0.
 -- Assumes nothing.
 use mathlib.Core.Path.{sym}
 use lib.ListN.{List·getD-eq-default}

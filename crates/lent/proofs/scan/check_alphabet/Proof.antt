@@ -1,4 +1,4 @@
--- `lent::check_alphabet` meets its contract.
+-- `lent::check_alphabet` meets its contract. The tests on the way decide each case of the check.
 -- Assumes nothing.
 use mathlib.Core.Path.{sym, _∙_}
 use borrow.Author.Tests.{lt-ltb, le-ltb}

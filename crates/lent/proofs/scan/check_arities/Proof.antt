@@ -1,4 +1,4 @@
--- `lent::check_arities` meets its contract.
+-- `lent::check_arities` meets its contract. The loop's invariant: what the check says of the alphabet it says of the arities from i on.
 -- Assumes nothing.
 use Prim.Native.Nat.{ℕ, _+_, _≤_, _-_}
 use mathlib.Core.List.{List}

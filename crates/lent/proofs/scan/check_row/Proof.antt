@@ -1,4 +1,4 @@
--- `lent::check_row` meets its contract.
+-- `lent::check_row` meets its contract. The loop's invariant: the verdict on the row is that from i on, with `need` subtrees to come.
 -- Assumes nothing.
 use Prim.Native.Nat.{ℕ, _≤_, _-_, _+_, _*_}
 use mathlib.Core.List.{List}

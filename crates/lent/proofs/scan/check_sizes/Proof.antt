@@ -1,4 +1,4 @@
--- `lent::check_sizes` meets its contract.
+-- `lent::check_sizes` meets its contract. The checks on the way decide each case.
 -- Assumes nothing.
 use mathlib.Core.Path.{sym, _∙_}
 use borrow.Author.Needs.{needs}

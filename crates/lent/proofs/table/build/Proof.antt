@@ -1,6 +1,5 @@
--- `lent::build` meets its contract.
+-- `lent::build` meets its contract. The table is filled where nothing is refused; a refusal leaves its bytes, which are those of its numbers.
 -- Assumes nothing.
--- the numbers that the bytes hold, and the check on them
 use Prim.Native.Nat.{ℕ}
 use mathlib.Core.Path.{_≡_, sym, ap, _∙_}
 use mathlib.Core.List.{List}
@@ -19,6 +18,7 @@ use borrow.Author.Needs.{needs}
 use Rattle.lent.proofs.table.build.Statement.{statement}
 use Rattle.lent.proofs.table.build.Tie as tie
 
+-- the numbers that the bytes hold, and the check on them
 module _ (b : tie.After-check-build) where
   abbrev start : tie.Start
   start = b .before .before .before .before .before .before

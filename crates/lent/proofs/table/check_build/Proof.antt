@@ -1,6 +1,5 @@
--- `lent::check_build` meets its contract.
+-- `lent::check_build` meets its contract. After refusals 1 to 6 come 7 to 9.
 -- Assumes nothing.
--- refusals 1 to 6, on the numbers
 use Prim.Native.Nat.{ℕ}
 use mathlib.Core.Path.{_≡_, sym, ap, _∙_}
 use mathlib.Core.List.{List}
@@ -15,6 +14,7 @@ use borrow.Author.Needs.{needs}
 use Rattle.lent.proofs.table.check_build.Statement.{statement}
 use Rattle.lent.proofs.table.check_build.Tie as tie
 
+-- refusals 1 to 6, on the numbers
 module _ (s : tie.After-check-sizes) where
   abbrev start : tie.Start
   start = s .before .before .before .before
