@@ -15,7 +15,8 @@ use Rattle.decimal.specs.Numeral.{numeral}
 use Rattle.decimal.specs.Lines.{following, line, Small, endsNumber, Stands, HasLine, LineRead, Room}
 use Rattle.decimal.specs.declared.Cursor.{Cursor}
 use Rattle.decimal.proofs.Numerals.{numeral-some}
-use Rattle.decimal.proofs.Writing.{written-none, written-length, written-snoc}
+use Rattle.buffers.proofs.Written.{length-written, written-nil}
+use Rattle.decimal.proofs.Writing.{written-snoc}
 use Rattle.decimal.proofs.Runs.{numeral-alone}
 use Rattle.decimal.proofs.Reading.{inside, front, begins}
 
@@ -94,7 +95,7 @@ empty-line b c y i h =
       stands = record { small = tt; text = begins b (c .at) w ∙ rw h; within = omega arith };
       next = refl;
       count = sym (add-zero i);
-      buffer = sym (written-none y i);
+      buffer = sym (written-nil y i);
     }
 
 -- what was read of a line: the numbers stand in the buffer from place `first` on, and in the text with a space behind each
@@ -117,7 +118,7 @@ sofar-none b c y i r =
       small = tt;
       text = refl;
       many = sym (add-zero i);
-      buffer = sym (written-none y i);
+      buffer = sym (written-nil y i);
       size = refl;
       room = r .buffer;
       taken = r .numbers;
@@ -218,7 +219,7 @@ room-next {b} {c} {y} {i} {k} {d} {y′} r l =
     let k₁ : i + i ≤ c .at = r .numbers in
     let k₂ : length b ≤ length y + length y = r .buffer in
     let s : i + length (l .numbers) ≤ length y = omega arith in
-    let z : length y′ ≡ length y = ap length (l .buffer) ∙ written-length y i (l .numbers) s in (
+    let z : length y′ ≡ length y = ap length (l .buffer) ∙ length-written y i (l .numbers) s in (
       record {
         numbers = omega arith;
         buffer = omega arith;

@@ -6,18 +6,11 @@ use mathlib.Core.List.{List, [], _∷_, _++_, append-assoc}
 use native.Mathlib.Nat.{add-zero, add-assoc}
 use native.Mathlib.Numerals.{add-one}
 use native.Mathlib.Omega.{arith}
-use lib.ListN.{length, getD, take, drop, set, length-append, length-take, length-drop, take-append-drop}
-use lib.Seq.{length-take-le, take-at, take-suc, set-split, drop-append-add, drop-drop}
+use lib.ListN.{length, take, drop, set, length-append}
+use lib.Seq.{length-take-le, take-at, set-split, drop-append-add, drop-drop}
 use Rattle.rows.specs.Buffers.{written}
+use Rattle.buffers.proofs.Written.{length-written, written-nil}
 use Rattle.decimal.specs.Printed.{Printed}
-
-pub written-none : (b : List ℕ) (at : ℕ) → written b at [] ≡ b
-unfolding written
-written-none b at = rw (add-zero at) (take-append-drop at b)
-
-pub written-length : (b : List ℕ) (at : ℕ) (v : List ℕ) → at + length v ≤ length b → length (written b at v) ≡ length b
-unfolding written
-written-length b at v h = simp (length-append, length-take, length-drop) (omega arith)
 
 pub written-byte : (b : List ℕ) (at x : ℕ) → at < length b → set b at x ≡ written b at (x ∷ [])
 unfolding written
@@ -38,20 +31,12 @@ written-append b at u v h =
 pub written-snoc : (b : List ℕ) (at : ℕ) (v : List ℕ) (x : ℕ) → at + length v < length b
     → set (written b at v) (at + length v) x ≡ written b at (v ++ (x ∷ []))
 written-snoc b at v x h =
-    let l = written-length b at v (omega arith) in
+    let l = length-written b at v (omega arith) in
     written-byte (written b at v) (at + length v) x (omega arith) ∙ written-append b at v (x ∷ []) (omega arith)
-
-pub written-take : (b : List ℕ) (at : ℕ) (v : List ℕ) (i : ℕ) → i < length v → at + length v ≤ length b
-    → set (written b at (take i v)) (at + i) (getD v i 0) ≡ written b at (take (i + 1) v)
-written-take b at v i h k =
-    let l : length (take i v) ≡ i = length-take-le i v (omega arith) in
-    ap (λ j. set (written b at (take i v)) (at + j) (getD v i 0)) (sym l)
-    ∙ written-snoc b at (take i v) (getD v i 0) (omega arith)
-    ∙ rw (add-one i, take-suc v i 0 h)
 
 -- nothing was printed yet
 pub printed-none : (b : List ℕ) (at : ℕ) → Printed b at [] at b
-printed-none b at = record { next = sym (add-zero at); buffer = sym (written-none b at) }
+printed-none b at = record { next = sym (add-zero at); buffer = sym (written-nil b at) }
 
 -- a text was printed, and then another behind it
 pub printed-more : {b : List ℕ} {at : ℕ} {u : List ℕ} {m : ℕ} {b′ : List ℕ} {v : List ℕ} {r : ℕ} {b″ : List ℕ}

@@ -9,7 +9,7 @@ use lib.Seq.{take-at, drop-at, drop-drop}
 use Rattle.rows.specs.Buffers.{written}
 use Rattle.rows.specs.declared.Refusal.{Refusal}
 use Rattle.rows.specs.declared.Check.the-variants as check
-use Rattle.decimal.proofs.Writing.{written-length}
+use Rattle.buffers.proofs.Written.{length-written}
 use Rattle.seek_text.specs.Input.{Says, ListsRead}
 use Rattle.seek_text.specs.Print.{refusalText}
 use Rattle.seek_text.specs.Search.{seekCheck, MatchesFound, Prints, Prints.lists-refused, AnswerFound}
@@ -42,7 +42,7 @@ module _ (b y : List ℕ) (a e p : ℕ) (n : List ℕ) (l : ListsRead b y a e p 
   pub places : (a ≤ e) × (e ≤ p) × (p ≤ length n)
   places =
       let m : length (l .arities ++ (l .row ++ l .pattern)) ≡ length (l .arities) + (length (l .row) + length (l .pattern)) = simp length-append in
-      let z = ap length (l .buffer) ∙ written-length y 0 (l .arities ++ (l .row ++ l .pattern)) (omega (arith, l .within, l .pattern-end)) in (
+      let z = ap length (l .buffer) ∙ length-written y 0 (l .arities ++ (l .row ++ l .pattern)) (omega (arith, l .within, l .pattern-end)) in (
         omega (arith, l .arities-end, l .row-end),
         omega (arith, l .row-end, l .pattern-end),
         omega (arith, l .within),

@@ -25,7 +25,7 @@ use Rattle.tables.proofs.Given.{both-fine, sizes-fits}
 use Rattle.patterns.specs.Answers.{Listed}
 use Rattle.patterns.specs.Searches.{Checked}
 use Rattle.patterns.proofs.Listing.{listed-length}
-use Rattle.decimal.proofs.Writing.{written-length}
+use Rattle.buffers.proofs.Written.{length-written}
 use Rattle.sparrowhem.specs.Build.{buildCheck, Built}
 use Rattle.sparrowhem.specs.Search.{searchCheck, output, findCheck, Finds}
 use Rattle.sparrowhem.specs.declared.search.Found.{Found}
@@ -61,7 +61,7 @@ module _ (A w t : List ℕ) (e : buildCheck A w (length t) ≡ Fine) where
   built-length =
       let s = both-fine (sizes (length w) (length t)) (symbols A w) (both-fine (alphabet A) (sizes (length w) (length t) then symbols A w) e .1) .0 in
       let r = sizes-fits (length w) (length t) s .room in
-      written-length t 0 (table A w) (omega (arith, length-table A w))
+      length-written t 0 (table A w) (omega (arith, length-table A w))
 
   built-fresh : fresh A w (written t 0 (table A w)) ≡ Fine
   unfolding fresh written
@@ -114,7 +114,7 @@ module _ (A w q t t′ y y′ : List ℕ) (room : 16384 ≤ length t) (places : 
         let p : take (length (f .positions)) y′ ≡ f .positions = rw z (written-front y (f .positions)) in
         rw g (record {
           fine = seek-check ∙ e;
-          count = rw z (omega (arith, written-length y 0 (f .positions) (omega arith)));
+          count = rw z (omega (arith, length-written y 0 (f .positions) (omega arith)));
           ready = record { checked = k; listed = rw p l };
         })
 

@@ -5,7 +5,7 @@ use mathlib.Core.Path.{_≡_, refl, sym, ap, _∙_}
 use lib.ListN.{length, getD, take, set, length-set}
 use lib.Seq.{take-all}
 use Rattle.rows.specs.Buffers.{written}
-use Rattle.decimal.proofs.Writing.{written-none, written-take}
+use Rattle.buffers.proofs.Written.{written-nil, turn}
 use borrow.Author.Needs.{needs}
 use Rattle.decimal.proofs.put_bytes.Statement.{statement}
 use Rattle.decimal.proofs.put_bytes.Tie as tie
@@ -18,7 +18,7 @@ abbrev μ-loop : tie.MeasureT-loop
 μ-loop out₀ at bytes i₀ out i = length bytes - i
 
 loop-holds : tie.Need-loop-holds Inv-loop μ-loop
-loop-holds c = (search needs, refl, sym (written-none _ _))
+loop-holds c = (search needs, refl, sym (written-nil _ _))
 
 shared-slice-read-out : tie.Need-shared-slice-read-out Inv-loop μ-loop
 shared-slice-read-out c = search needs
@@ -42,7 +42,7 @@ loop-again c =
       search needs,
       simp length-set (l .inv .1),
       ap (λ b. set b (a .at + l .i) (getD (a .bytes .now) (l .i) 0)) (l .inv .2)
-          ∙ written-take (a .out .now) (a .at) (a .bytes .now) (l .i) (c .before .loop-test .taken) (c .before .before .before .pre),
+          ∙ turn (a .out .now) (a .at) (a .bytes .now) (l .i) (c .before .loop-test .taken) (search needs),
     )
 
 add-result : tie.Need-add-result Inv-loop μ-loop
