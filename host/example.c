@@ -56,18 +56,21 @@ int main(void) {
     show("row:    ", row, length);
     show("table:  ", table, length);
 
-    a = sparrowhem_find(arities, arities_bytes, row, row_bytes, table, sizeof table, pattern, pattern_bytes, out, sizeof out);
+    a = sparrowhem_find(arities, arities_bytes, row, row_bytes, table, sizeof table,
+        pattern, pattern_bytes, out, sizeof out);
     if (refused("find", a)) return 1;
     show("blocks of two equal parts, at:", out, a.count);
 
-    a = sparrowhem_replace(arities, arities_bytes, row, sizeof row, table, sizeof table, length, replacement, replacement_bytes, 4);
+    a = sparrowhem_replace(arities, arities_bytes, row, sizeof row, table, sizeof table,
+        length, replacement, replacement_bytes, 4);
     if (refused("replace", a)) return 1;
     length = a.count;
     printf("the part at 4 gives way to a block; the row is longer by %d\n", (int)a.change);
     show("row:    ", row, length);
     show("table:  ", table, length);
 
-    a = sparrowhem_find(arities, arities_bytes, row, (size_t)(2 * length), table, sizeof table, pattern, pattern_bytes, out, sizeof out);
+    a = sparrowhem_find(arities, arities_bytes, row, (size_t)(2 * length), table, sizeof table,
+        pattern, pattern_bytes, out, sizeof out);
     if (refused("find", a)) return 1;
     show("blocks of two equal parts, at:", out, a.count);
     return 0;

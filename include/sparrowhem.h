@@ -1,36 +1,61 @@
 /*
- * sparrowhem.h: build, find and replace in programme trees kept as rows of symbols.
- *
- * ALPHABET, ROW, TABLE. A programme is an ordered tree. Symbol k of an alphabet has the arity at place k of the alphabet:
- * each node that bears it has that many children. A tree is kept as a ROW: the root's symbol, then the rows of its
- * children from left to right. Beside a row stands its TABLE: entry p is the position just after the last symbol of the
- * subtree that begins at position p. Positions count from 0.
- *
- *     alphabet  0 0 1 2 3                symbols 0 and 1 are leaves, 2 has one child, 3 has two, 4 has three
- *     row       4 3 0 0 2 1 3 0 0
- *     table     9 4 3 4 6 6 9 8 9
- *
- * PATTERN. A row whose leaves may also be the blank SPARROWHEM_ANY, which stands for any one subtree, each on its own, or
- * a variable SPARROWHEM_VARIABLE(0) to SPARROWHEM_VARIABLE(15); equal variables stand for equal subtrees.
- *
- * NUMBERS ARE LENT AS BYTES. Every list of numbers - alphabet, row, table, pattern, replacement, output - is lent as a
- * pointer and a count of BYTES. Each number takes two bytes, the low one first, on every machine. An odd last byte is
- * neither counted nor written: 17 bytes are 8 numbers. The bytes may begin at any address, odd ones too. A null pointer
- * with count 0 is an empty list. Lengths, positions and places in the interface count NUMBERS, not bytes.
- *
- * EVERY INPUT IS ANSWERED. No call asks anything of the numbers it is lent: whatever they are, it ends, and answers or
- * refuses. A call that refuses has written no byte. A call that answers has written what is said below and no other byte.
- *
- * WHAT THE CALLER SEES TO. Each pointer leads to at least as many bytes as its count says. A buffer that a call writes
- * overlaps no other buffer of that call; lists that are only read may overlap or be the same.
- *
- * OWNERSHIP AND THREADS. The lists stay the caller's. No call allocates, keeps a pointer, or has any state, so all of
- * them can run in any thread at the same time. While a call runs, no other thread may write the
- * lists it was lent, nor read those it writes.
- *
- * STACK. sparrowhem_build needs under 1 KiB. sparrowhem_find and sparrowhem_replace work on copies on the stack
- * and need under 192 KiB.
- */
+** sparrowhem.h: build, find and replace in programme trees that are kept as
+** rows of symbols.
+**
+** ALPHABET, ROW, TABLE
+**
+** A programme is an ordered tree.  Symbol k of an alphabet has the arity at
+** place k of the alphabet: each node that bears it has that many children.
+** A tree is kept as a ROW: the root's symbol, then the rows of its children
+** from left to right.  Beside a row stands its TABLE: entry p is the
+** position just after the last symbol of the subtree that begins at
+** position p.  Positions count from 0.
+**
+**     alphabet   0 0 1 2 3     symbols 0 and 1 are leaves, 2 has one child,
+**                              3 has two, 4 has three
+**     row        4 3 0 0 2 1 3 0 0
+**     table      9 4 3 4 6 6 9 8 9
+**
+** PATTERN
+**
+** A row whose leaves may also be the blank SPARROWHEM_ANY, which stands for
+** any one subtree, each on its own, or a variable SPARROWHEM_VARIABLE(0) to
+** SPARROWHEM_VARIABLE(15); equal variables stand for equal subtrees.
+**
+** NUMBERS ARE LENT AS BYTES
+**
+** Every list of numbers (alphabet, row, table, pattern, replacement, output)
+** is lent as a pointer and a count of BYTES.  Each number takes two bytes,
+** the low one first, on every machine.  An odd last byte is neither counted
+** nor written: 17 bytes are 8 numbers.  The bytes may begin at any address,
+** odd ones too.  A null pointer with count 0 is an empty list.  Lengths,
+** positions and places count NUMBERS, not bytes.
+**
+** EVERY INPUT IS ANSWERED
+**
+** No call asks anything of the numbers that it is lent: whatever they are,
+** it ends, and it answers or refuses.  A call that refuses has written no
+** byte.  A call that answers has written what is said below, and no other
+** byte.
+**
+** WHAT THE CALLER SEES TO
+**
+** Each pointer leads to at least as many bytes as its count says.  A buffer
+** that a call writes overlaps no other buffer of that call; lists that are
+** only read may overlap or be the same.
+**
+** OWNERSHIP AND THREADS
+**
+** The lists stay the caller's.  No call allocates, keeps a pointer, or has
+** any state, so all of them can run in any thread at the same time.  While a
+** call runs, no other thread may write the lists that it was lent, nor read
+** those that it writes.
+**
+** STACK
+**
+** sparrowhem_build needs under 1 KiB.  sparrowhem_find and sparrowhem_replace
+** work on copies on the stack, and need under 192 KiB.
+*/
 #ifndef SPARROWHEM_H
 #define SPARROWHEM_H
 
@@ -43,137 +68,185 @@ extern "C" {
 
 #define SPARROWHEM_VERSION "1.0.0"
 
-/* Limits: symbols in an alphabet, arity, numbers in a row or a replacement, numbers in a pattern. */
+/*
+** Limits: symbols in an alphabet, an arity, numbers in a row or in a
+** replacement, numbers in a pattern.
+*/
 #define SPARROWHEM_MOST_SYMBOLS 1024
-#define SPARROWHEM_MOST_ARITY 15
-#define SPARROWHEM_MOST_ROW 16384
+#define SPARROWHEM_MOST_ARITY   15
+#define SPARROWHEM_MOST_ROW     16384
 #define SPARROWHEM_MOST_PATTERN 256
 
-/* In a pattern: any one subtree; variable i, from 0 to 15. */
-#define SPARROWHEM_ANY 65535u
+/*
+** In a pattern: any one subtree, and variable i, from 0 to 15.
+*/
+#define SPARROWHEM_ANY         65535u
 #define SPARROWHEM_VARIABLE(i) (65280u + (i))
 
-/* What replace leaves in the places that it frees. */
-#define SPARROWHEM_FREED_ROW 65535u
+/*
+** What replace leaves in the places that it frees.
+*/
+#define SPARROWHEM_FREED_ROW   65535u
 #define SPARROWHEM_FREED_TABLE 0u
 
 /*
- * Why a call refuses, and the place that it gives. The first that applies, in this order, is given: those of the
- * alphabet, the row's size, the row, the table, then the pattern or the replacement, then 17, 18, 19. A row is read from left to
- * right up to its first fault; a number behind the tree's end is 9, whatever it is.
- */
+** Why a call refuses, each with the place that it gives.
+**
+** Where several apply, the first in this order is given: 1 to 10; then 11 to
+** 15, or 24 to 29; then 17, 18, 19.  A row, a pattern or a replacement is
+** read from left to right, up to its first fault; a number that stands
+** behind the tree's end is 9, 15 or 29, whatever it is.
+*/
 enum {
-    SPARROWHEM_ANSWERED = 0,
+  SPARROWHEM_ANSWERED          = 0,
 
-    SPARROWHEM_ALPHABET_SIZE = 1,      /* the alphabet is empty or has over 1024 symbols: its length */
-    SPARROWHEM_ARITY_OVER = 2,         /* an arity is over 15: the first such symbol */
-    SPARROWHEM_NO_LEAF = 3,            /* no symbol has arity 0: 0 */
+  /* the alphabet is empty or has over 1024 symbols: its length */
+  SPARROWHEM_ALPHABET_SIZE     = 1,
+  /* an arity is over 15: the first such symbol */
+  SPARROWHEM_ARITY_OVER        = 2,
+  /* no symbol has arity 0: 0 */
+  SPARROWHEM_NO_LEAF           = 3,
 
-    SPARROWHEM_ROW_EMPTY = 4,          /* the row's length is 0: 0 */
-    SPARROWHEM_ROW_LONG = 5,           /* the row is over 16384 long: its length */
-    SPARROWHEM_BUFFER_SHORT = 6,       /* the table, or in replace the row's buffer, is shorter than the row: the row's length */
-    SPARROWHEM_ROW_STRAY = 7,          /* a number in the row is no symbol: its position */
-    SPARROWHEM_ROW_EARLY = 8,          /* the row ends before its tree does: the row's length */
-    SPARROWHEM_ROW_EXTRA = 9,          /* the row goes on after its tree: the first position after the tree */
-    SPARROWHEM_STALE = 10,             /* an entry of the table is not the row's: the first such position */
+  /* the row's length is 0: 0 */
+  SPARROWHEM_ROW_EMPTY         = 4,
+  /* the row's length is over 16384: the length */
+  SPARROWHEM_ROW_LONG          = 5,
+  /* the table, or in replace the row's buffer, is shorter than the row: the
+  ** row's length */
+  SPARROWHEM_BUFFER_SHORT      = 6,
+  /* a number in the row is no symbol: its position */
+  SPARROWHEM_ROW_STRAY         = 7,
+  /* the row ends before its tree does: the row's length */
+  SPARROWHEM_ROW_EARLY         = 8,
+  /* the row goes on after its tree: the first position after the tree */
+  SPARROWHEM_ROW_EXTRA         = 9,
+  /* an entry of the table is not the row's: the first such position */
+  SPARROWHEM_STALE             = 10,
 
-    SPARROWHEM_PATTERN_EMPTY = 11,     /* as 4, 5, 7, 8, 9, for the pattern; it is too long over 256 */
-    SPARROWHEM_PATTERN_LONG = 12,
-    SPARROWHEM_PATTERN_STRAY = 13,
-    SPARROWHEM_PATTERN_EARLY = 14,
-    SPARROWHEM_PATTERN_EXTRA = 15,
+  /* as 4, 5, 7, 8, 9, for the pattern, which is too long over 256 */
+  SPARROWHEM_PATTERN_EMPTY     = 11,
+  SPARROWHEM_PATTERN_LONG      = 12,
+  SPARROWHEM_PATTERN_STRAY     = 13,
+  SPARROWHEM_PATTERN_EARLY     = 14,
+  SPARROWHEM_PATTERN_EXTRA     = 15,
 
-    SPARROWHEM_POSITION = 17,          /* the position is not below the row's length: the position */
-    SPARROWHEM_TOO_LONG = 18,          /* the new row would be over 16384 long, or longer than its buffer or the table: its length */
-    SPARROWHEM_OUTPUT_SHORT = 19,      /* there are more matches than places in the output: the number of the matches */
+  /* the position is not below the row's length: the position */
+  SPARROWHEM_POSITION          = 17,
+  /* the new row would be over 16384 long, or longer than its buffer or the
+  ** table: its length */
+  SPARROWHEM_TOO_LONG          = 18,
+  /* there are more matches than places in the output: the number of matches */
+  SPARROWHEM_OUTPUT_SHORT      = 19,
 
-    SPARROWHEM_REPLACEMENT_EMPTY = 24, /* as 4, 5, 7, 8, 9, for the replacement */
-    SPARROWHEM_REPLACEMENT_LONG = 25,
-    SPARROWHEM_REPLACEMENT_STRAY = 27,
-    SPARROWHEM_REPLACEMENT_EARLY = 28,
-    SPARROWHEM_REPLACEMENT_EXTRA = 29
+  /* as 4, 5, 7, 8, 9, for the replacement */
+  SPARROWHEM_REPLACEMENT_EMPTY = 24,
+  SPARROWHEM_REPLACEMENT_LONG  = 25,
+  SPARROWHEM_REPLACEMENT_STRAY = 27,
+  SPARROWHEM_REPLACEMENT_EARLY = 28,
+  SPARROWHEM_REPLACEMENT_EXTRA = 29
 };
 
 /*
- * An answer. 24 bytes, returned by value.
- *
- *              answered                     refused
- *   refusal    0                            the refusal's number, from the list above
- *   change     replace: the new length      0
- *              minus the old; else 0
- *   place      0                            the refusal's place
- *   count      what the call counts         0
- */
+** An answer: 24 bytes, returned by value.
+**
+**              answered                       refused
+**   refusal    0                              the refusal's number
+**   change     replace: new length minus      0
+**              old length; else 0
+**   place      0                              the refusal's place
+**   count      what the call counts           0
+*/
 typedef struct {
-    uint32_t refusal;
-    int32_t change;
-    uint64_t place;
-    uint64_t count;
+  uint32_t refusal;
+  int32_t change;
+  uint64_t place;
+  uint64_t count;
 } sparrowhem_answer;
 
 /*
- * sparrowhem_build: writes the table of the row to the front of `table`. `count` is the row's length; numbers of the table
- * behind it stay. What the table held before is not looked at.
- *
- * Refuses with 1 to 9.
- */
+** Build: writes the table of the row to the front of `table`.
+**
+** `count` is the row's length.  Numbers of the table behind it stay.  What
+** the table held before is not looked at.
+**
+** Refuses with 1 to 9.
+*/
 sparrowhem_answer sparrowhem_build(
-    const uint8_t *arities, size_t arities_bytes,
-    const uint8_t *row, size_t row_bytes,
-    uint8_t *table, size_t table_bytes);
+  const uint8_t *arities, size_t arities_bytes,
+  const uint8_t *row,     size_t row_bytes,
+  uint8_t *table,         size_t table_bytes
+);
 
 /*
- * sparrowhem_find: writes the positions at which the pattern matches, rising, to the front of `out`. `count` is their
- * number; numbers of the output behind them stay. Matches may overlap and nest; all are listed. Entries of the table behind the
- * row's length are not looked at.
- *
- * Refuses with 1 to 15 and 19. An output of no places is enough where there is no match.
- */
+** Find: writes the positions at which the pattern matches, rising, to the
+** front of `out`.
+**
+** `count` is their number.  Numbers of the output behind them stay.  Matches
+** may overlap and nest; all are listed.  Entries of the table behind the
+** row's length are not looked at.
+**
+** Refuses with 1 to 15 and 19.  Where nothing matches, an output without
+** places is enough.
+*/
 sparrowhem_answer sparrowhem_find(
-    const uint8_t *arities, size_t arities_bytes,
-    const uint8_t *row, size_t row_bytes,
-    const uint8_t *table, size_t table_bytes,
-    const uint8_t *pattern, size_t pattern_bytes,
-    uint8_t *out, size_t out_bytes);
+  const uint8_t *arities, size_t arities_bytes,
+  const uint8_t *row,     size_t row_bytes,
+  const uint8_t *table,   size_t table_bytes,
+  const uint8_t *pattern, size_t pattern_bytes,
+  uint8_t *out,           size_t out_bytes
+);
 
 /*
- * sparrowhem_replace: in the row of the first `row_length` numbers of the buffer `row`, whose table stands in `table`, the
- * subtree at `position` gives way to the row `replacement`. Row and table are changed in place. `count` is the new length of the
- * row, to be passed as `row_length` from now on, and `change` the new length minus the old one. Where the row gets shorter, the
- * places from the new length to the old one hold SPARROWHEM_FREED_ROW in the row and SPARROWHEM_FREED_TABLE in the table. Numbers behind these
- * stay.
- *
- * Refuses with 1 to 10, 17, 18 and 24 to 29. Putting the old subtree straight back is never refused.
- */
+** Replace: in the row of the first `row_length` numbers of the buffer `row`,
+** whose table stands at the front of `table`, the subtree at `position`
+** gives way to the row `replacement`.  Both are changed in place.
+**
+** `count` is the row's new length, which is passed as `row_length` from then
+** on, and `change` the new length minus the old one.  Where the row gets
+** shorter, the places from the new length up to the old one hold
+** SPARROWHEM_FREED_ROW in the row and SPARROWHEM_FREED_TABLE in the table.
+** Numbers behind these stay.
+**
+** Refuses with 1 to 10, 17, 18 and 24 to 29.  Putting the old subtree
+** straight back is never refused.
+*/
 sparrowhem_answer sparrowhem_replace(
-    const uint8_t *arities, size_t arities_bytes,
-    uint8_t *row, size_t row_bytes,
-    uint8_t *table, size_t table_bytes,
-    uint64_t row_length,
-    const uint8_t *replacement, size_t replacement_bytes,
-    uint64_t position);
+  const uint8_t *arities,     size_t arities_bytes,
+  uint8_t *row,               size_t row_bytes,
+  uint8_t *table,             size_t table_bytes,
+  uint64_t row_length,
+  const uint8_t *replacement, size_t replacement_bytes,
+  uint64_t position
+);
 
 /*
- * EXAMPLE. The row 3 0 0 over the alphabet 0 0 1 2, and the places of all leaves 0 in it:
- *
- *     const uint8_t arities[] = {0, 0, 0, 0, 1, 0, 2, 0};
- *     const uint8_t row[] = {3, 0, 0, 0, 0, 0};
- *     const uint8_t pattern[] = {0, 0};
- *     uint8_t table[6], out[6];
- *     sparrowhem_answer a = sparrowhem_build(arities, sizeof arities, row, sizeof row, table, sizeof table);
- *     if (a.refusal == SPARROWHEM_ANSWERED) {
- *         a = sparrowhem_find(arities, sizeof arities, row, sizeof row, table, sizeof table,
- *                             pattern, sizeof pattern, out, sizeof out);
- *     }
- *     if (a.refusal != SPARROWHEM_ANSWERED) {
- *         printf("refused: %u at %llu\n", (unsigned)a.refusal, (unsigned long long)a.place);
- *     }
- *
- * After this a.count is 2, and out begins with 1, 0, 2, 0: the positions 1 and 2. host/example.c is a longer one.
- */
+** EXAMPLE
+**
+** The row 3 0 0 over the alphabet 0 0 1 2, and the places of all leaves 0:
+**
+**     const uint8_t arities[] = {0, 0, 0, 0, 1, 0, 2, 0};
+**     const uint8_t row[] = {3, 0, 0, 0, 0, 0};
+**     const uint8_t pattern[] = {0, 0};
+**     uint8_t table[6], out[6];
+**     sparrowhem_answer a;
+**     a = sparrowhem_build(arities, sizeof arities, row, sizeof row,
+**                          table, sizeof table);
+**     if( a.refusal == SPARROWHEM_ANSWERED ){
+**       a = sparrowhem_find(arities, sizeof arities, row, sizeof row,
+**                           table, sizeof table, pattern, sizeof pattern,
+**                           out, sizeof out);
+**     }
+**     if( a.refusal != SPARROWHEM_ANSWERED ){
+**       printf("refused: %u at %llu\n", (unsigned)a.refusal,
+**              (unsigned long long)a.place);
+**     }
+**
+** After this a.count is 2, and out begins with 1, 0, 2, 0: the positions 1
+** and 2.  host/example.c is a longer one.
+*/
 
 #ifdef __cplusplus
 }
 #endif
 
-#endif
+#endif /* SPARROWHEM_H */

@@ -1,5 +1,4 @@
 // Replace on copies of the lent numbers.
-ghost use mathlib.Core.Path.{_≡_};
 ghost use Prim.Native.Nat.{min, _≤_};
 ghost use lib.ListN.{length};
 ghost use Rattle.wire.specs.Wire.{numbers};

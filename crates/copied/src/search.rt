@@ -1,6 +1,5 @@
 // Find on copies of the lent numbers.
-ghost use mathlib.Core.Path.{_≡_};
-ghost use Prim.Native.Nat.{min, _≤_};
+ghost use Prim.Native.Nat.{_≤_};
 ghost use lib.ListN.{length};
 ghost use Rattle.wire.specs.Wire.{numbers};
 ghost use Rattle.copied.specs.Copies.{Copyable};
