@@ -1,11 +1,13 @@
 // Runs document 01's worked programmes and the sizes at their limits on the public calls, and prints each answer and
 // what the call leaves in its buffers.
 mod building;
+mod comparing;
 mod handing;
 mod lists;
 mod printing;
 mod replacing;
 mod searching;
+mod trying;
 
 fn builds() {
     building::worked();
@@ -35,9 +37,27 @@ fn replacements() {
     replacing::limits();
 }
 
+fn newer() {
+    handing::newer();
+    handing::on_record();
+    handing::no_fall_through();
+}
+
+fn plain() {
+    trying::worked();
+    trying::traps();
+    trying::positions();
+    trying::refusals();
+    trying::depths();
+    trying::lengths();
+    comparing::lists();
+}
+
 fn main() {
     builds();
     handing::subtrees();
     searches();
     replacements();
+    newer();
+    plain();
 }
