@@ -3,7 +3,7 @@ ghost use mathlib.Core.Path.{_≡_};
 ghost use Prim.Native.Nat.{_≤_};
 ghost use lib.ListN.{length, getD};
 ghost use Rattle.rows.specs.Row.{verdict, isVariable, allowed, sized, reading};
-ghost use Rattle.rows.specs.Refusals.{rowNumber, onRecordNumber, patternNumber, replacementNumber, faultPlace, number, place, aritiesFit, someLeaf, alphabet, sizes};
+ghost use Rattle.rows.specs.Refusals.{rowNumber, onRecordNumber, patternNumber, replacementNumber, faultPlace, number, place, aritiesFit, someLeaf, alphabet, sizes, symbols};
 
 // What is wrong with a list that should be a tree's prefix notation: it is empty, it is too long, a number may not stand
 // in it, it ends before its tree does, it goes on after its tree.
@@ -241,29 +241,41 @@ fn allows(leaves: Leaves, arities: &[u16], s: u16) -> bool
     }
 }
 
-// Is it a tree's prefix notation, with these leaves? One pass, counting the subtrees that are still to come.
+// Is it a tree's prefix notation, with these leaves? One pass, counting the symbols that are due: one for the root, and as
+// many as each symbol so far has children.
 pub fn check_row(arities: &[u16], row: &[u16], leaves: Leaves) -> Verdict
     requires { ⌜ length (now row) ≤ 16384 ⌝ }
     ensures { λ r. ⌜ r ≡ verdict (now (arities .entry)) (allowed leaves (now (arities .entry))) 1 0 (now (row .entry)) ⌝ }
 {
-    let mut need: usize = 1;
+    let mut due: usize = 1;
     let mut i = 0;
     while i < row.len() {
-        if need == 0 {
+        if due == i {
             return Verdict::Faulty(Fault::Extra(i));
         }
         let s = row[i];
         if allows(leaves, arities, s) {
-            need = need - 1 + arity_of(arities, s) as usize;
+            due += arity_of(arities, s) as usize;
             i += 1;
         } else {
             return Verdict::Faulty(Fault::Stray(i));
         }
     }
-    if need == 0 {
+    if due == i {
         Verdict::Whole
     } else {
         Verdict::Faulty(Fault::Early(i))
+    }
+}
+
+// Refusals 7, 8 and 9: the row is one tree's.
+pub fn check_symbols(arities: &[u16], row: &[u16]) -> Check
+    requires { ⌜ length (now row) ≤ 16384 ⌝ }
+    ensures { λ r. ⌜ r ≡ symbols (now (arities .entry)) (now (row .entry)) ⌝ }
+{
+    match check_row(arities, row, Leaves::Symbols) {
+        Verdict::Faulty(f) => Check::Refused(Refusal::Row(f)),
+        Verdict::Whole => Check::Fine,
     }
 }
 

@@ -2,9 +2,6 @@
 ghost use mathlib.Core.Path.{_≡_};
 ghost use Rattle.sparrowhem.specs.Build.{buildCheck, Built};
 use rows::Check;
-use rows::Leaves;
-use rows::Refusal;
-use rows::Verdict;
 
 // Refusals 1 to 9, for a table with `places` places.
 fn check_build(arities: &[u16], row: &[u16], places: usize) -> Check
@@ -14,10 +11,7 @@ fn check_build(arities: &[u16], row: &[u16], places: usize) -> Check
         Check::Refused(r) => Check::Refused(r),
         Check::Fine => match rows::check_sizes(row.len(), places) {
             Check::Refused(r) => Check::Refused(r),
-            Check::Fine => match rows::check_row(arities, row, Leaves::Symbols) {
-                Verdict::Faulty(f) => Check::Refused(Refusal::Row(f)),
-                Verdict::Whole => Check::Fine,
-            },
+            Check::Fine => rows::check_symbols(arities, row),
         },
     }
 }

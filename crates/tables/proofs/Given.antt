@@ -20,16 +20,17 @@ use Rattle.rows.specs.declared.Check.{Check}
 use Rattle.rows.specs.declared.Check.the-variants.{Fine, Refused}
 use Rattle.rows.proofs.Scan.{sized-fits}
 use Rattle.rows.proofs.Entry.{length-table, entry-bounds}
-use Rattle.tables.specs.Given.{Sized, Right, isFine}
+use Rattle.tables.specs.Given.{Sized, Right}
 use Rattle.tables.proofs.Differ.{differs-whole}
 
 pub both-fine : (a b : Check) → _then_ a b ≡ Fine → (a ≡ Fine) × (b ≡ Fine)
 both-fine Fine b e = (refl, e)
 both-fine (Refused r) b e = let z : _≡_ {A = ℕ} 0 1 = cc in absurd (omega arith)
 
-pub fine-of : (c : Check) → isFine c ≡ true → c ≡ Fine
-fine-of Fine e = refl
-fine-of (Refused r) e = let z : _≡_ {A = ℕ} 0 1 = cc in absurd (omega arith)
+-- a check that is not fine is the first to refuse
+pub refused-first : (a b : Check) → (a ≡ Fine → ⊥) → a then b ≡ a
+refused-first Fine b n = absurd (n refl)
+refused-first (Refused r) b n = refl
 
 pub row-fine : (v : Verdict) → asRow v ≡ Fine → v ≡ Whole
 row-fine Whole e = refl

@@ -1,3 +1,4 @@
+pub mod Standing
 pub mod Fill
 pub mod Reach
 pub mod Differ

@@ -2,12 +2,15 @@
 use Prim.Native.Nat.{ℕ, _+_, _≤_}
 use mathlib.Core.Path.{_≡_}
 use mathlib.Core.List.{List}
-use mathlib.Core.Bool.{Bool, true, false}
+use lib.Dec.{ltb}
 use lib.ListN.{length, take}
-use Rattle.rows.specs.Row.{Accepted}
+use Rattle.rows.specs.Row.{pick, Accepted}
 use Rattle.rows.specs.Parse.{table}
-use Rattle.rows.specs.declared.Check.{Check}
+use Rattle.rows.specs.Refusals.{symbols, fresh}
+use Rattle.rows.specs.declared.Refusal.the-variants.{Stale}
 use Rattle.rows.specs.declared.Check.the-variants.{Fine, Refused}
+use Rattle.tables.specs.declared.Seen.{Seen}
+use Rattle.tables.specs.declared.Seen.the-variants.{NoTree, Tree}
 
 -- a row within the sizes, and a table with room for it
 pub record Sized (w t : List ℕ) : Type 0 where
@@ -26,6 +29,8 @@ pub record Fillable (A w t : List ℕ) (at : ℕ) : Type 0 where
   pub most : at + length w ≤ 16384
   pub fits : at + length w ≤ length t
 
-abbrev pub isFine : Check → Bool
-isFine Fine = true
-isFine (Refused r) = false
+-- what the pass over a row and a table sees: the row is no tree's; or it is one's, and the first entry that is not the row's
+-- stands at k, none where k is past the row
+abbrev pub Sees : List ℕ → List ℕ → List ℕ → Seen → Type 0
+Sees A w t NoTree = symbols A w ≡ Fine → ⊥
+Sees A w t (Tree k) = (symbols A w ≡ Fine) × (fresh A w t ≡ pick (ltb k (length w)) (Refused (Stale k)) Fine)

@@ -1,4 +1,5 @@
--- `tables::tree_length` meets its contract. The loop's invariant: `need` trees from i on end where the first tree ends.
+-- `tables::tree_length` meets its contract. The loop's invariant: as many trees from i on as symbols are due beyond i end where
+-- the first tree ends.
 -- Assumes nothing.
 use Prim.Native.Nat.{ℕ, _≤_, _-_, _+_, _*_}
 use mathlib.Core.Path.{_≡_, sym, ap, _∙_}
@@ -12,26 +13,24 @@ use Rattle.tables.proofs.tree_length.Statement.{statement}
 use Rattle.tables.proofs.tree_length.Tie as tie
 
 abbrev Inv-loop : tie.InvT-loop
-Inv-loop arities list need₀ i₀ need i =
-    (i ≤ length list) × (need ≤ 1 + 65535 * i) × (reach arities list need i ≡ size (first 1 (parse arities list)))
+Inv-loop arities list due₀ i₀ due i =
+    (i ≤ length list) × (i ≤ due) × (due ≤ 1 + 65535 * i) × (reach arities list (due - i) i ≡ size (first 1 (parse arities list)))
 
 abbrev μ-loop : tie.MeasureT-loop
-μ-loop arities list need₀ i₀ need i = length list - i
+μ-loop arities list due₀ i₀ due i = length list - i
 
 loop-holds : tie.Need-loop-holds Inv-loop μ-loop
 loop-holds c =
-    (search needs, search needs, reach-start (c .before .before .args .arities .now) (c .before .before .args .list .now))
+    (search needs, search needs, search needs, reach-start (c .before .before .args .arities .now) (c .before .before .args .list .now))
 
 returns : tie.Need-returns Inv-loop μ-loop
 returns c =
     let l = c .before .before in
     let a = l .before .before .before .args in
+    let none : 0 ≡ l .loop .due - l .loop .i = omega (arith, c .if1 .taken) in
     sym (reach-none (a .arities .now) (a .list .now) (l .loop .i))
-    ∙ ap (λ (n : ℕ). reach (a .arities .now) (a .list .now) n (l .loop .i)) (sym (c .if1 .taken))
-    ∙ l .loop .inv .2
-
-sub-need : tie.Need-sub-need Inv-loop μ-loop
-sub-need c = search needs
+    ∙ ap (λ (n : ℕ). reach (a .arities .now) (a .list .now) n (l .loop .i)) none
+    ∙ l .loop .inv .3
 
 mul-arity-of : tie.Need-mul-arity-of Inv-loop μ-loop
 mul-arity-of c = search needs
@@ -42,11 +41,11 @@ shared-slice-read-arity-of c = search needs
 arity-of-requires : tie.Need-arity-of-requires Inv-loop μ-loop
 arity-of-requires c κs = search needs
 
-cast-need : tie.Need-cast-need Inv-loop μ-loop
-cast-need c = search needs
+cast-due : tie.Need-cast-due Inv-loop μ-loop
+cast-due c = search needs
 
-add-need : tie.Need-add-need Inv-loop μ-loop
-add-need c = search needs
+add-due : tie.Need-add-due Inv-loop μ-loop
+add-due c = search needs
 
 add-i : tie.Need-add-i Inv-loop μ-loop
 add-i c = search needs
@@ -60,9 +59,10 @@ loop-again c =
     let a = l .before .before .before .args in (
       search needs,
       search needs,
-      ap (λ (n : ℕ). reach (a .arities .now) (a .list .now) (l .loop .need - 1 + n) (l .loop .i + 1)) (c .arity-of .ensures)
-          ∙ sym (reach-more (a .arities .now) (a .list .now) (l .loop .need) (l .loop .i) (search needs) (search needs))
-          ∙ l .loop .inv .2,
+      search needs,
+      ap (λ (n : ℕ). reach (a .arities .now) (a .list .now) n (l .loop .i + 1)) (omega (arith, c .arity-of .ensures))
+          ∙ sym (reach-more (a .arities .now) (a .list .now) (l .loop .due - l .loop .i) (l .loop .i) (omega arith) (search needs))
+          ∙ l .loop .inv .3,
     )
 
 returns-2 : tie.Need-returns-2 Inv-loop μ-loop
@@ -71,9 +71,9 @@ returns-2 c =
     let a = l .before .before .before .args in
     let done : l .loop .i ≡ length (a .list .now) = omega arith in
     done
-    ∙ sym (reach-end (a .arities .now) (a .list .now) (l .loop .need))
-    ∙ ap (reach (a .arities .now) (a .list .now) (l .loop .need)) (sym done)
-    ∙ l .loop .inv .2
+    ∙ sym (reach-end (a .arities .now) (a .list .now) (l .loop .due - l .loop .i))
+    ∙ ap (reach (a .arities .now) (a .list .now) (l .loop .due - l .loop .i)) (sym done)
+    ∙ l .loop .inv .3
 
 pub tree-length-spec : {M : Type 1} → statement M
 tree-length-spec =
@@ -83,12 +83,11 @@ tree-length-spec =
     μ-loop
     loop-holds
     returns
-    sub-need
     mul-arity-of
     shared-slice-read-arity-of
     arity-of-requires
-    cast-need
-    add-need
+    cast-due
+    add-due
     add-i
     loop-less
     loop-again

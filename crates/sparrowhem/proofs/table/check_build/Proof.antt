@@ -2,7 +2,6 @@
 -- Assumes nothing.
 use mathlib.Core.Path.{sym, _∙_}
 use lib.ListN.{length}
-use Rattle.rows.specs.Refusals.{symbols}
 use Rattle.tables.proofs.Given.{sizes-fits}
 use Rattle.sparrowhem.specs.Build.{buildCheck}
 use borrow.Author.Needs.{needs}
@@ -27,16 +26,10 @@ enum-known-r-2 c = search needs
 enum-told-2 : tie.Need-enum-told-2
 enum-told-2 c = search needs
 
-check-row-requires : tie.Need-check-row-requires
-check-row-requires c κs =
+check-symbols-requires : tie.Need-check-symbols-requires
+check-symbols-requires c κs =
     let a = c .before .before .before .before .before .before .before .before .args in
     sizes-fits (length (a .row .now)) (a .places) (sym (c .before .before .check-sizes .ensures) ∙ c .enum-told2 .given .1) .most
-
-enum-known-f : tie.Need-enum-known-f
-enum-known-f c = search needs
-
-enum-told-3 : tie.Need-enum-told-3
-enum-told-3 c = search needs
 
 returns : tie.Need-returns
 unfolding buildCheck
@@ -48,21 +41,12 @@ returns-2 c =
     simp (sym (c .before .before .before .before .before .before .check-alphabet .ensures) ∙ c .before .before .before .before .enum-told .given .1, sym (c .before .before .before .check-sizes .ensures) ∙ c .before .r2 .given .1)
 
 returns-3 : tie.Need-returns-3
-unfolding buildCheck symbols
+unfolding buildCheck
 returns-3 c =
-    simp (
-      sym (c .before .before .before .before .before .before .before .before .before .check-alphabet .ensures) ∙ c .before .before .before .before .before .before .before .enum-told .given .1,
-      sym (c .before .before .before .before .before .before .check-sizes .ensures) ∙ c .before .before .before .before .enum-told2 .given .1,
-      sym (c .before .before .before .check-row .ensures) ∙ c .before .f .given .1,
-    )
-
-returns-4 : tie.Need-returns-4
-unfolding buildCheck symbols
-returns-4 c =
-    simp (
-      sym (c .before .before .before .before .before .before .before .before .check-alphabet .ensures) ∙ c .before .before .before .before .before .before .enum-told .given .1,
-      sym (c .before .before .before .before .before .check-sizes .ensures) ∙ c .before .before .before .enum-told2 .given .1,
-      sym (c .before .before .check-row .ensures) ∙ c .enum-told3 .given .1,
+    c .check-symbols .ensures
+    ∙ simp (
+      sym (c .before .before .before .before .before .before .check-alphabet .ensures) ∙ c .before .before .before .before .enum-told .given .1,
+      sym (c .before .before .before .check-sizes .ensures) ∙ c .before .enum-told2 .given .1,
     )
 
 pub check-build-spec : {M : Type 1} → statement M
@@ -75,10 +59,7 @@ check-build-spec =
     check-sizes-requires
     enum-known-r-2
     enum-told-2
-    check-row-requires
-    enum-known-f
-    enum-told-3
+    check-symbols-requires
     returns
     returns-2
-    returns-3
-    returns-4)
+    returns-3)
