@@ -1,7 +1,7 @@
 pub mod Put
 pub mod Ends
 pub mod Positions
-pub mod Walk
+pub mod Before
 pub mod Signed
 pub mod Place
 pub mod Tail

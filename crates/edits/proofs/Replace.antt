@@ -1,7 +1,7 @@
 -- From a row and its table, spliced, to the tree with a subtree replaced.
 -- Assumes nothing.
 use Prim.Native.Nat.{ℕ, _+_, _-_, _≤_, _<_}
-use mathlib.Core.Path.{_≡_, refl, sym, ap, ap₂, _∙_}
+use mathlib.Core.Path.{_≡_, sym, ap, ap₂, _∙_}
 use mathlib.Core.List.{List}
 use native.Mathlib.Omega.{arith}
 use lib.ListN.{length, take, getD}
@@ -17,10 +17,10 @@ use Rattle.tables.proofs.Given.{right-entry, right-bounds}
 use Rattle.buffers.specs.Renewed.{renewed, spliced}
 use Rattle.edits.specs.Put.{put, extent, changed}
 use Rattle.edits.specs.Moved.{splicedEnds}
-use Rattle.edits.specs.Given.{Room, Nested, Movable}
+use Rattle.edits.specs.Given.{Room, Movable}
 use Rattle.edits.specs.Replace.{Replaceable, Replacing}
 use Rattle.edits.proofs.Put.{put-size, put-prefix}
-use Rattle.edits.proofs.Ends.{put-ends, end-at, nests}
+use Rattle.edits.proofs.Ends.{put-ends, end-at}
 
 -- an accepted row has as many symbols as its tree has nodes
 pub size-tree : (A v : List ℕ) → Accepted A v → size (single (treeOf A v)) ≡ length v
@@ -31,18 +31,6 @@ pub right-end : (A w t : List ℕ) → Right A w t → (k : ℕ) → k < length 
 unfolding table
 right-end A w t r k h =
     right-entry A w t r k h ∙ end-at (parse A w) k (omega (arith, size-parse A w)) 0 ∙ omega arith
-
-pub right-nested : (A w t : List ℕ) → Right A w t → Nested t (length w)
-right-nested A w t r =
-    record {
-      behind = λ k h. right-bounds A w t r k h .0;
-      within = λ k h. right-bounds A w t r k h .1;
-      nests =
-          λ q k h o i.
-          let b = right-bounds A w t r q h .1 in
-          let x = right-end A w t r q h in
-          omega (arith, right-end A w t r k (omega arith), nests (parse A w) q (omega (arith, size-parse A w)) k o (omega arith));
-    }
 
 -- the new length, from the entry at the position
 pub new-length : (A w t v : List ℕ) (p : ℕ) → Right A w t → Accepted A v → p < length w
@@ -64,9 +52,10 @@ module _ (A row t : List ℕ) (n : ℕ) (v : List ℕ) (p : ℕ) (r : Replaceabl
   pub entry-in : p < length t
   entry-in = omega (arith, long, r .position, r .right .sized .fits)
 
-  pub bounds : (p < e) × (e ≤ n)
-  bounds =
-      let b = right-bounds A w t (r .right) p (omega (arith, long, r .position)) in
+  -- each entry lies behind its position and within the row
+  pub bounds : (k : ℕ) → k < n → (k < getD t k 0) × (getD t k 0 ≤ n)
+  bounds k h =
+      let b = right-bounds A w t (r .right) k (omega (arith, long)) in
       (b .0, omega (arith, long, b .1))
 
   pub length-new : size (changed A w p v) ≡ p + length v + (n - e)
@@ -76,8 +65,8 @@ module _ (A row t : List ℕ) (n : ℕ) (v : List ℕ) (p : ℕ) (r : Replaceabl
   room : (places : ℕ) → n ≤ places → size (changed A w p v) ≤ places → Room n p e (p + length v) places
   room places old new =
       record {
-        starts = bounds .0;
-        stops = bounds .1;
+        starts = bounds p (r .position) .0;
+        stops = bounds p (r .position) .1;
         most = omega (arith, long, r .right .sized .most);
         old = old;
         new-most = omega (arith, length-new, r .most);
@@ -90,8 +79,8 @@ module _ (A row t : List ℕ) (n : ℕ) (v : List ℕ) (p : ℕ) (r : Replaceabl
   pub table-movable : Movable t n p e (p + length v)
   table-movable =
       record {
-        nested = rw long at (right-nested A w t (r .right));
-        entry = refl;
+        behind = λ k h. bounds k h .0;
+        within = λ k h. bounds k h .1;
         room = room (length t) (omega (arith, long, r .right .sized .fits)) (r .table-room);
       }
 

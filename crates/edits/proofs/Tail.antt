@@ -15,7 +15,7 @@ use Rattle.edits.specs.Moved.{moved, splicedEnds}
 use Rattle.edits.specs.Given.{Movable}
 use Rattle.edits.proofs.Ends.{moved-past, moved-upto}
 use Rattle.edits.proofs.Put.{below}
-use Rattle.edits.proofs.Walk.{before, before-at, length-before}
+use Rattle.edits.proofs.Before.{before, before-at, length-before}
 
 module _ (t : List ℕ) (n p e to : ℕ) (m : Movable t n p e to) where
   -- the table once the ends of the subtrees that hold p have moved; the tail's entries; and the table once they stand at their new place
@@ -49,8 +49,8 @@ module _ (t : List ℕ) (n p e to : ℕ) (m : Movable t n p e to) where
 
   tail-behind : (k : ℕ) → k < n - e → (e ≤ getD tail k 0) × (getD tail k 0 ≤ n)
   tail-behind k h =
-      let x = m .nested .behind (e + k) (omega arith) in
-      let y = m .nested .within (e + k) (omega arith) in
+      let x = m .behind (e + k) (omega arith) in
+      let y = m .within (e + k) (omega arith) in
       let z = tail-at k h in
       (omega arith, omega arith)
 

@@ -17,21 +17,24 @@ ghost use Rattle.edits.specs.Replace.{grown, Replaceable, Replacing};
 use rows::Check;
 use rows::Refusal;
 
-// The ends of the subtrees that hold the one at p move as its end moves from e to `to`. The way leads from the root down to
-// p: a subtree that ends before p is hopped over, one that holds p is entered.
-fn move_holders(table: &mut [u16], p: usize, e: usize, to: usize)
+// Where a subtree that ended at x ends, once one that ended at e ends at `to`.
+fn moved_end(x: u16, e: u16, to: u16) -> u16
+    requires { ⌜ moved e to x < 65536 ⌝ }
+    ensures { λ r. ⌜ r ≡ moved e to x ⌝ }
+{
+    if x < e { x } else { x - e + to }
+}
+
+// The ends of the subtrees that hold the one at p move as its end moves from e to `to`. Each entry before p is written, also
+// one that stays: the compiler makes one pass of that, which takes many entries at a time.
+fn move_holders(table: &mut [u16], p: usize, e: u16, to: u16)
     requires { ⌜ ((n : ℕ) × Movable (now table) n p e to) ⌝ }
     ensures { λ r. ⌜ now (table .exit) ≡ written (now (table .entry)) 0 (map (moved e to) (take p (now (table .entry)))) ⌝ }
 {
-    let mut q: usize = 0;
-    while q < p {
-        let end = table[q] as usize;
-        if end <= p {
-            q = end;
-        } else {
-            table[q] = (end - e + to) as u16;
-            q += 1;
-        }
+    let mut k: usize = 0;
+    while k < p {
+        table[k] = moved_end(table[k], e, to);
+        k += 1;
     }
 }
 
@@ -45,7 +48,7 @@ fn move_ends(table: &mut [u16], n: usize, p: usize, e: usize, to: usize)
         return;
     }
     let rest = n - e;
-    move_holders(table, p, e, to);
+    move_holders(table, p, e as u16, to as u16);
     buffers::move_part(table, e, to, rest);
     buffers::shift(table, to, rest, e as u16, to as u16);
 }

@@ -30,6 +30,12 @@ returns c =
 sub-rest : tie.Need-sub-rest
 sub-rest c = search needs
 
+cast-move-holders : tie.Need-cast-move-holders
+cast-move-holders c = search needs
+
+cast-move-holders-2 : tie.Need-cast-move-holders-2
+cast-move-holders-2 c = search needs
+
 move-holders-requires : tie.Need-move-holders-requires
 move-holders-requires c κs = search needs
 
@@ -78,6 +84,8 @@ move-ends-spec =
     (tie.spec
     returns
     sub-rest
+    cast-move-holders
+    cast-move-holders-2
     move-holders-requires
     move-part-requires
     cast-shift

@@ -35,7 +35,7 @@ add-result c = search needs
 sub-result : tie.Need-sub-result
 sub-result c =
     let s = c .before .before .before .before .before .before .before .before .before .before .before .before .before in
-    bounds (now (s .args .arities)) (now (s .args .row)) (now (s .args .table)) (s .args .n) (now (s .args .v)) (s .args .p) (s .pre) .1
+    bounds (now (s .args .arities)) (now (s .args .row)) (now (s .args .table)) (s .args .n) (now (s .args .v)) (s .args .p) (s .pre) (s .args .p) (s .pre .position) .1
 
 add-result-2 : tie.Need-add-result-2
 add-result-2 c =

@@ -15,7 +15,7 @@ use Rattle.buffers.specs.Shift.{shifted}
 use Rattle.buffers.specs.Renewed.{renewed}
 use Rattle.buffers.proofs.Renewed.{renewed-parts}
 use Rattle.edits.specs.Moved.{moved}
-use Rattle.edits.proofs.Walk.{length-before}
+use Rattle.edits.proofs.Before.{length-before}
 use Rattle.edits.proofs.Tail.{length-tail, splicedEnds-front}
 use borrow.Author.Needs.{needs}
 use Rattle.edits.proofs.replace_ends.Statement.{statement}
