@@ -13,13 +13,13 @@ use rows::Check;
 use rows::Refusal;
 
 // Room for the ends of the trees that stand side by side. A short row needs less of it, which is sooner cleared.
-fn long_room() -> [u16; 16384]
+pub fn long_room() -> [u16; 16384]
     ensures { λ r. ⌜ 16384 ≡ length r ⌝ }
 {
     [0u16; 16384]
 }
 
-fn short_room() -> [u16; 256]
+pub fn short_room() -> [u16; 256]
     ensures { λ r. ⌜ 256 ≡ length r ⌝ }
 {
     [0u16; 256]
