@@ -1,3 +1,4 @@
 pub mod Spelling
+pub mod Reach
 pub mod Trying
 pub mod Parting

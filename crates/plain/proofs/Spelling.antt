@@ -5,11 +5,12 @@ use mathlib.Core.Path.{_≡_, sym, ap, _∙_, subst}
 use mathlib.Core.List.{List, [], _∷_, _++_}
 use mathlib.Core.Bool.{Bool}
 use native.Mathlib.Omega.{arith}
+use lib.Dec.{T}
 use lib.ListN.{length, getD, take, drop, length-drop}
 use lib.Seq.{take-all, drop-at}
 use Rattle.rows.specs.Tree.{Forest, Forest.none, Forest.grow, count, size, prefix, Ranked}
 use Rattle.rows.specs.Parse.{first, rest, over, parse}
-use Rattle.rows.proofs.Tree.{split, count-beside, prefix-beside, length-prefix, count-rest, size-first-lt, size-split, ranked-beside, ranked-rest}
+use Rattle.rows.proofs.Tree.{split, count-beside, prefix-beside, length-prefix, count-rest, count-size, size-first-lt, size-split, ranked-beside, ranked-rest}
 use Rattle.rows.proofs.Parse.{prefix-parse, size-parse, parse-prefix}
 use Rattle.plain.specs.Plain.{Spells}
 
@@ -36,6 +37,10 @@ module _ (A : List ℕ) (ok : ℕ → Bool) where
   pub spells-some : (k : ℕ) (l : List ℕ) → 0 < k → Spells A ok k l → 0 < length l
   spells-some k l h s = omega (arith, size-first-lt 0 (parse A l) (omega (arith, s .many)), size-parse A l)
 
+  -- nor is it shorter than it has trees
+  pub spells-fits : (k : ℕ) (l : List ℕ) → Spells A ok k l → k ≤ length l
+  spells-fits k l s = omega (arith, s .many, count-size (parse A l), size-parse A l)
+
   -- what stands behind a ranked symbol: its children, and more
   ranked-inside : (s : ℕ) (g : Forest) → Ranked A ok (over s (getD A s 0) g) → Ranked A ok g × (getD A s 0 ≤ count g)
   unfolding over Ranked
@@ -48,6 +53,14 @@ module _ (A : List ℕ) (ok : ℕ → Bool) where
   pub spells-inside : (k s : ℕ) (l : List ℕ) → Spells A ok k (s ∷ l) → Spells A ok (getD A s 0) l
   unfolding parse
   spells-inside k s l h = let r = ranked-inside s (parse A l) (h .ranked) in record { ranked = r .0; many = r .1 }
+
+  -- one symbol on: it may stand, and its children are to come in its place
+  pub spells-next : (k s : ℕ) (l : List ℕ) → 0 < k → Spells A ok k (s ∷ l) → T (ok s) × Spells A ok (k - 1 + getD A s 0) l
+  unfolding parse over Ranked count
+  spells-next k s l some h =
+      let inside = spells-inside k s l h in
+      let left = count-rest (getD A s 0) (parse A l) (inside .many) in
+      (h .ranked .0, record { ranked = inside .ranked; many = omega (arith, h .many, left) })
 
   pub ranked-drop : (n : ℕ) (l : List ℕ) → Ranked A ok (parse A l) → Ranked A ok (parse A (drop n l))
   unfolding parse

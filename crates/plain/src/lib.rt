@@ -3,11 +3,30 @@
 ghost use mathlib.Core.Path.{_≡_};
 ghost use mathlib.Core.Bool.{true};
 ghost use mathlib.Core.Logic.{_↔_};
-ghost use Rattle.rows.specs.Parse.{treeOf};
+ghost use Prim.Native.Nat.{_≤_};
+ghost use lib.ListN.{length};
+ghost use Rattle.rows.specs.Tree.{size};
+ghost use Rattle.rows.specs.Parse.{first, parse, treeOf};
+ghost use Rattle.rows.specs.Row.{symbol};
 ghost use Rattle.patterns.specs.Pattern.{Matches};
-ghost use Rattle.plain.specs.Plain.{Lent, Tells, Tryable};
+ghost use Rattle.plain.specs.Plain.{Spells, Lent, Tells, Tryable};
 use patterns::Leaf;
 use patterns::Stepped;
+
+// How many symbols the first tree of the rest of a row takes, counting those that are due: one for the root, and as many as
+// each symbol so far has children.
+fn tree_length(arities: &[u16], rest: &[u16]) -> usize
+    requires { ⌜ (length (now rest) ≤ 16384) × Spells (now arities) (symbol (now arities)) 1 (now rest) ⌝ }
+    ensures { λ r. ⌜ r ≡ size (first 1 (parse (now (arities .entry)) (now (rest .entry)))) ⌝ }
+{
+    let mut due: usize = 1;
+    let mut i = 0;
+    while i < due {
+        due += arities[rest[i] as usize] as usize;
+        i += 1;
+    }
+    i
+}
 
 // What trees of the pattern find in the row: how many numbers of the pattern and how many symbols of the row they take; or
 // the place of the part where they do not fit.
@@ -41,11 +60,11 @@ fn node(
     match kind {
         Leaf::Plain => Tried::Miss(at),
         Leaf::Blank => {
-            let n = tables::tree_length(arities, rest);
+            let n = tree_length(arities, rest);
             Tried::Past(1, n)
         }
         Leaf::Variable(i) => {
-            let n = tables::tree_length(arities, rest);
+            let n = tree_length(arities, rest);
             let met = patterns::meet(part, i, at, at + n, marks);
             match met {
                 Stepped::To(_) => Tried::Past(1, n),

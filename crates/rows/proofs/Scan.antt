@@ -7,7 +7,7 @@ use mathlib.Core.Bool.{Bool, true, false}
 use native.Mathlib.Numerals.{add-one}
 use native.Mathlib.Omega.{arith}
 use lib.Dec.{ltb, eqb}
-use lib.ListN.{length, getD, drop}
+use lib.ListN.{length, getD, drop, drop-of-length-le}
 use lib.Seq.{drop-cons}
 use borrow.Author.Tests.{lt-ltb, ltb-false}
 use Rattle.rows.specs.Row.{pick, verdict, allowed, sized}
@@ -51,6 +51,10 @@ pub verdict-early : (A : List ℕ) (ok : ℕ → Bool) (k i : ℕ) → 0 < k →
 unfolding verdict
 verdict-early A ok zero i h = absurd (omega arith)
 verdict-early A ok (suc k) i h = refl
+
+-- past its last number a list is read as the empty one
+pub verdict-end : (A : List ℕ) (ok : ℕ → Bool) (l : List ℕ) (k i : ℕ) → length l ≤ i → verdict A ok k i (drop i l) ≡ verdict A ok k i []
+verdict-end A ok l k i h = ap (verdict A ok k i) (drop-of-length-le l h)
 
 -- a symbol of the alphabet is allowed everywhere
 pub allowed-symbol : (k : Leaves) (A : List ℕ) (s : ℕ) → s < length A → allowed k A s ≡ true

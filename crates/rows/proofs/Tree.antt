@@ -80,6 +80,12 @@ count-rest k g h = let e = count-beside (first k g) (rest k g) in let d = ap cou
 pub size-split : (k : ℕ) (g : Forest) → size (first k g) + size (rest k g) ≡ size g
 size-split k g = sym (size-beside (first k g) (rest k g)) ∙ ap size (split k g)
 
+-- no more trees than nodes
+pub count-size : (g : Forest) → count g ≤ size g
+unfolding count size
+count-size none = omega arith
+count-size (grow s cs f) = let e = count-size f in omega arith
+
 -- fewer than all trees are fewer than all nodes
 pub size-first-lt : (k : ℕ) (g : Forest) → k < count g → size (first k g) < size g
 unfolding first count size

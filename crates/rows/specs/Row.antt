@@ -1,13 +1,15 @@
 -- What reading a list from left to right finds, which numbers it may hold, and the checksum rule.
-use Prim.Native.Nat.{ℕ, zero, suc, _+_, _<_}
+use Prim.Native.Nat.{ℕ, zero, suc, _+_, _-_, _≤_, _<_}
 use mathlib.Core.Path.{_≡_}
 use mathlib.Core.List.{List, [], _∷_}
 use mathlib.Core.Bool.{Bool, true, false}
 use lib.Dec.{T, ltb, eqb}
-use lib.ListN.{getD, length, take}
+use lib.ListN.{getD, length, take, drop}
 use Rattle.rows.specs.declared.Fault.the-variants.{Empty, Long, Stray, Early, Extra}
 use Rattle.rows.specs.declared.Verdict.{Verdict}
 use Rattle.rows.specs.declared.Verdict.the-variants.{Whole, Faulty}
+use Rattle.rows.specs.declared.Read.{Read}
+use Rattle.rows.specs.declared.Read.the-variants.{Due, Fault}
 use Rattle.rows.specs.declared.Leaves.{Leaves}
 use Rattle.rows.specs.declared.Leaves.the-variants.{Symbols, Blanks}
 
@@ -26,6 +28,12 @@ verdict A ok zero at [] = Whole
 verdict A ok (suc k) at [] = Faulty (Early at)
 verdict A ok zero at (s ∷ w) = Faulty (Extra at)
 verdict A ok (suc k) at (s ∷ w) = pick (ok s) (verdict A ok (k + getD A s 0) (at + 1) w) (Faulty (Stray at))
+
+-- reading the number at position i of the list w, where `due` symbols are due in all, finds that d are due then, or a fault
+abbrev pub Reads : List ℕ → (ℕ → Bool) → List ℕ → ℕ → ℕ → Read → Type 0
+Reads A ok w i due (Due d) =
+    (i < d) × (d ≤ due + 65535) × (verdict A ok (due - i) i (drop i w) ≡ verdict A ok (d - (i + 1)) (i + 1) (drop (i + 1) w))
+Reads A ok w i due (Fault f) = verdict A ok (due - i) i (drop i w) ≡ Faulty f
 
 -- a symbol of the alphabet
 abbrev pub symbol : List ℕ → ℕ → Bool

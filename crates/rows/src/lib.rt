@@ -1,8 +1,10 @@
 // The kernel: what is wrong with an alphabet, a row, a pattern or a replacement, and the checks that say so.
 ghost use mathlib.Core.Path.{_≡_};
-ghost use Prim.Native.Nat.{_≤_};
+ghost use mathlib.Core.Bool.{Bool};
+ghost use mathlib.Core.List.{List, []};
+ghost use Prim.Native.Nat.{ℕ, _+_, _-_, _*_, _≤_, _<_};
 ghost use lib.ListN.{length, getD};
-ghost use Rattle.rows.specs.Row.{verdict, isVariable, allowed, sized, reading};
+ghost use Rattle.rows.specs.Row.{verdict, Reads, isVariable, allowed, sized, reading};
 ghost use Rattle.rows.specs.Refusals.{rowNumber, onRecordNumber, patternNumber, replacementNumber, faultPlace, number, place, aritiesFit, someLeaf, alphabet, sizes, symbols};
 
 // What is wrong with a list that should be a tree's prefix notation: it is empty, it is too long, a number may not stand
@@ -241,31 +243,66 @@ fn allows(leaves: Leaves, arities: &[u16], s: u16) -> bool
     }
 }
 
-// Is it a tree's prefix notation, with these leaves? One pass, counting the symbols that are due: one for the root, and as
-// many as each symbol so far has children.
+// What reading a number finds: how many symbols are then due in all, or what is wrong.
+pub enum Read {
+    Due(usize),
+    Fault(Fault),
+}
+
+// The number at i, where `due` symbols are due in all: one for the root, and as many as each symbol so far has children.
+fn read_at(arities: &[u16], row: &[u16], leaves: Leaves, i: usize, due: usize) -> Read
+    requires { ⌜ (i < length (now row)) × (i ≤ due) × (due ≤ 1 + 65535 * i) × (i ≤ 16384) ⌝ }
+    ensures { λ r. ⌜ Reads (now (arities .entry)) (allowed leaves (now (arities .entry))) (now (row .entry)) i due r ⌝ }
+{
+    if due == i {
+        return Read::Fault(Fault::Extra(i));
+    }
+    let s = row[i];
+    if allows(leaves, arities, s) {
+        return Read::Due(due + arity_of(arities, s) as usize);
+    }
+    Read::Fault(Fault::Stray(i))
+}
+
+// What the end of a list of n numbers finds.
+fn read_end(n: usize, due: usize) -> Verdict
+    requires { ⌜ n ≤ due ⌝ }
+    ensures { λ r. ⌜ ((A : List ℕ) (ok : ℕ → Bool) → r ≡ verdict A ok (due - n) n []) ⌝ }
+{
+    if due == n {
+        Verdict::Whole
+    } else {
+        Verdict::Faulty(Fault::Early(n))
+    }
+}
+
+// Is it a tree's prefix notation, with these leaves? One pass. Two numbers a turn, so that the test whether the list goes
+// on is paid half as often.
 pub fn check_row(arities: &[u16], row: &[u16], leaves: Leaves) -> Verdict
     requires { ⌜ length (now row) ≤ 16384 ⌝ }
     ensures { λ r. ⌜ r ≡ verdict (now (arities .entry)) (allowed leaves (now (arities .entry))) 1 0 (now (row .entry)) ⌝ }
 {
     let mut due: usize = 1;
     let mut i = 0;
-    while i < row.len() {
-        if due == i {
-            return Verdict::Faulty(Fault::Extra(i));
-        }
-        let s = row[i];
-        if allows(leaves, arities, s) {
-            due += arity_of(arities, s) as usize;
-            i += 1;
-        } else {
-            return Verdict::Faulty(Fault::Stray(i));
+    while i + 1 < row.len() {
+        match read_at(arities, row, leaves, i, due) {
+            Read::Fault(f) => return Verdict::Faulty(f),
+            Read::Due(between) => match read_at(arities, row, leaves, i + 1, between) {
+                Read::Fault(f) => return Verdict::Faulty(f),
+                Read::Due(after) => {
+                    due = after;
+                    i += 2;
+                }
+            },
         }
     }
-    if due == i {
-        Verdict::Whole
-    } else {
-        Verdict::Faulty(Fault::Early(i))
+    if i < row.len() {
+        return match read_at(arities, row, leaves, i, due) {
+            Read::Fault(f) => Verdict::Faulty(f),
+            Read::Due(after) => read_end(row.len(), after),
+        };
     }
+    read_end(row.len(), due)
 }
 
 // Refusals 7, 8 and 9: the row is one tree's.

@@ -9,7 +9,7 @@ use lib.ListN.{length, getD, set}
 use lib.Seq.{getD-set-same, getD-set-other, drop-length}
 use Rattle.rows.specs.Tree.{Forest, Forest.none, Forest.grow, count, size}
 use Rattle.rows.specs.Parse.{first, rest, over, parse}
-use Rattle.rows.proofs.Tree.{count-rest, size-split}
+use Rattle.rows.proofs.Tree.{count-rest, count-size, size-split}
 use Rattle.rows.proofs.Behind.{behind, behind-over, size-behind, count-behind}
 
 -- the list holds the ends of the trees of a forest that starts at b: at place k that of the tree with k trees to its right
@@ -44,12 +44,6 @@ standing-end (suc a) none l b c e h = absurd (omega arith)
 standing-end (suc a) (grow s cs f) l b c e h =
     let down : count f + 1 - suc a ≡ count f - a = omega arith in
     ap (λ (n : ℕ). getD l n 0) down ∙ standing-end a f l (b + size cs + 1) (c .1) (c .0) (omega arith) ∙ omega arith
-
--- no more trees than nodes
-count-size : (g : Forest) → count g ≤ size g
-unfolding count size
-count-size none = omega arith
-count-size (grow s cs f) = let e = count-size f in omega arith
 
 -- behind the whole row nothing stands
 pub standing-none : (A w l : List ℕ) (b : ℕ) → (0 ≡ count (behind A w (length w))) × Standing l b (behind A w (length w))

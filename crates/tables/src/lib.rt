@@ -1,10 +1,10 @@
-// The table of a row: filled, checked, and the end of a subtree from the row alone.
+// The table of a row, filled and checked.
 ghost use mathlib.Core.Path.{_≡_};
-ghost use Prim.Native.Nat.{ℕ, _+_, _≤_, _<_};
+ghost use Prim.Native.Nat.{_≤_};
 ghost use lib.Dec.{eqb};
 ghost use lib.ListN.{length};
-ghost use Rattle.rows.specs.Tree.{size, ends};
-ghost use Rattle.rows.specs.Parse.{first, parse};
+ghost use Rattle.rows.specs.Tree.{ends};
+ghost use Rattle.rows.specs.Parse.{parse};
 ghost use Rattle.rows.specs.Row.{pick};
 ghost use Rattle.rows.specs.Buffers.{written};
 ghost use Rattle.rows.specs.Refusals.{_then_, symbols, fresh, kept, given};
@@ -62,24 +62,6 @@ pub fn fill_ends(arities: &[u16], row: &[u16], table: &mut [u16], at: usize)
         let mut standing = long_room();
         fill_beside(arities, row, table, at, &mut standing);
     }
-}
-
-// How many symbols the first tree of a list takes, counting those that are due: one for the root, and as many as each symbol
-// so far has children.
-pub fn tree_length(arities: &[u16], list: &[u16]) -> usize
-    requires { ⌜ length (now list) ≤ 16384 ⌝ }
-    ensures { λ r. ⌜ r ≡ size (first 1 (parse (now (arities .entry)) (now (list .entry)))) ⌝ }
-{
-    let mut due: usize = 1;
-    let mut i = 0;
-    while i < list.len() {
-        if due == i {
-            return i;
-        }
-        due += rows::arity_of(arities, list[i]) as usize;
-        i += 1;
-    }
-    i
 }
 
 // What one pass over a row and a table sees: the row is no tree's; or it is one's, and where the first entry stands that is

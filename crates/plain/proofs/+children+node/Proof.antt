@@ -21,7 +21,7 @@ use Rattle.patterns.proofs.leaf_of.Reads as leaf-of-reads
 use Rattle.patterns.proofs.same.Reads as same-reads
 use Rattle.patterns.proofs.meet.Reads as meet-reads
 use Rattle.rows.proofs.arity_of.Reads as arity-of-reads
-use Rattle.tables.proofs.tree_length.Reads as tree-length-reads
+use Rattle.plain.proofs.tree_length.Reads as tree-length-reads
 use Rattle.plain.proofs.+children+node.{statement}
 use Rattle.plain.proofs.+children+node.Tie.{close}
 
@@ -233,13 +233,13 @@ module _ (t : ℕ) where
   node-enum-told-3 c = search needs
 
   node-tree-length-requires : node-lts.Need-tree-length-requires node-calls node-at node.Post
-  node-tree-length-requires c κs = let s = c .before .before .before .before .before .before .before .before .before .before .before in omega (arith, lent-within _ _ _ _ _ _ (s .pre .1), s .pre .1 .most)
+  node-tree-length-requires c κs = let s = c .before .before .before .before .before .before .before .before .before .before .before in (omega (arith, lent-within _ _ _ _ _ _ (s .pre .1), s .pre .1 .most), s .pre .1 .row)
 
   node-enum-known-kind : node-lts.Need-enum-known-kind node-calls node-at node.Post
   node-enum-known-kind c = search needs
 
   node-tree-length-requires-2 : node-lts.Need-tree-length-requires-2 node-calls node-at node.Post
-  node-tree-length-requires-2 c κs = let s = c .before .before .before .before .before .before .before .before .before .before .before .before in omega (arith, lent-within _ _ _ _ _ _ (s .pre .1), s .pre .1 .most)
+  node-tree-length-requires-2 c κs = let s = c .before .before .before .before .before .before .before .before .before .before .before .before in (omega (arith, lent-within _ _ _ _ _ _ (s .pre .1), s .pre .1 .most), s .pre .1 .row)
 
   node-add-meet : node-lts.Need-add-meet node-calls node-at node.Post
   node-add-meet c =
