@@ -83,6 +83,10 @@ static answer check_given(const uint16_t *arities, size_t symbols, const uint16_
     return a.refusal ? a : check_table(arities, row, n, table);
 }
 
+answer c_pass(const uint16_t *arities, size_t symbols, const uint16_t *row, size_t n, const uint16_t *table, size_t room) {
+    return check_given(arities, symbols, row, n, table, room);
+}
+
 static answer check_pattern(const uint16_t *arities, size_t symbols, const uint16_t *pattern, size_t m) {
     answer a = check_size(m, 256, PATTERN);
     return a.refusal ? a : check_reading(arities, symbols, pattern, m, true, PATTERN);

@@ -81,7 +81,7 @@ fn check_table(arities: &[u16], row: &[u16], table: &[u16]) -> Result<(), Refusa
     Ok(())
 }
 
-fn check_given(arities: &[u16], row: &[u16], table: &[u16]) -> Result<(), Refusal> {
+pub fn check_given(arities: &[u16], row: &[u16], table: &[u16]) -> Result<(), Refusal> {
     check_alphabet(arities)?;
     check_size(row.len(), 16384, ROW)?;
     if table.len() < row.len() {

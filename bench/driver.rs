@@ -2,6 +2,7 @@
 //! Usage: driver FOLDER [quick]. Writes FOLDER/measured.md (tables of ratios) and FOLDER/benchmarks.svg (time against
 //! length); progress goes to standard error.
 
+mod bars;
 mod baseline;
 mod picture;
 
@@ -20,7 +21,8 @@ pub struct Answer {
 type List = (*const u16, usize);
 
 macro_rules! calls {
-    ($($build:ident $find:ident $variables:ident $replace:ident $plain:ident)*) => { extern "C" { $(
+    ($($pass:ident $build:ident $find:ident $variables:ident $replace:ident $plain:ident)*) => { extern "C" { $(
+        fn $pass(arities: *const u16, symbols: usize, row: *const u16, n: usize, table: *const u16, room: usize) -> Answer;
         fn $build(arities: *const u16, symbols: usize, row: *const u16, n: usize, table: *mut u16, room: usize) -> Answer;
         fn $find(arities: *const u16, symbols: usize, row: *const u16, n: usize, table: *const u16, room: usize,
             pattern: *const u16, m: usize, out: *mut u16, places: usize) -> Answer;
@@ -33,8 +35,8 @@ macro_rules! calls {
     )* } };
 }
 calls! {
-    timed_build timed_find timed_variables timed_replace timed_plain_match
-    c_build c_find c_variables c_replace c_plain_match
+    timed_pass timed_build timed_find timed_variables timed_replace timed_plain_match
+    c_pass c_build c_find c_variables c_replace c_plain_match
 }
 
 fn list(xs: &[u16]) -> List {
@@ -55,6 +57,16 @@ fn answered(r: Result<(u64, i32), baseline::Refusal>) -> Answer {
     match r {
         Ok((count, change)) => Answer { refusal: 0, change, place: 0, count },
         Err((refusal, place)) => Answer { refusal: refusal as u64, change: 0, place, count: 0 },
+    }
+}
+
+/// Refusals 1 to 10 alone: the pass over row and table that every call with a table makes.
+fn pass(by: By, arities: &[u16], row: &[u16], table: &[u16]) -> Answer {
+    let ((a, k), (w, n), (t, m)) = (list(arities), list(row), list(table));
+    match by {
+        By::Library => unsafe { timed_pass(a, k, w, n, t, m) },
+        By::Rust => answered(baseline::check_given(arities, row, table).map(|()| (0, 0))),
+        By::C => unsafe { c_pass(a, k, w, n, t, m) },
     }
 }
 
@@ -171,14 +183,11 @@ fn shape(name: &str, n: usize) -> Vec<u16> {
         }
         "15-ary" => grown(n, |_, open| if open < 2 { FIFTEEN } else { 0 }),
         "random" => grown(n, |_, _| [0, 1, 0, ONE, TWO, THREE, 5][random.below(7)]),
-        // every second child is the same small subtree
+        // both children of every symbol are the same, at each height
         _ => {
-            let small = [THREE, 0, 1, TWO, 0, 0];
-            let mut at = 0;
-            grown(n, |_, open| {
-                at += 1;
-                if open < 3 { THREE } else { small[at % small.len()] }
-            })
+            let mut row = vec![ONE];
+            full_binary(&mut row, n - 1);
+            row
         }
     }
 }
@@ -244,20 +253,21 @@ impl Bench {
 
 // ---- what is called
 
-fn patterns(row: &[u16], table: &[u16]) -> Vec<(&'static str, Vec<u16>)> {
-    let root = row[0];
-    let arity = alphabet()[root as usize] as usize;
-    let mut with_root = vec![root];
-    with_root.extend(std::iter::repeat(65280).take(arity));
-    let stretch = (0..row.len()).find(|&p| table[p] as usize - p >= row.len().min(200) / 2 && table[p] as usize - p <= 256);
-    let mut all = vec![
-        ("rare root", std::iter::once(15).chain(std::iter::repeat(65535).take(14)).collect()),
-        ("common root", with_root),
-        ("repeated variables", vec![TWO, 65280, 65280]),
-        ("bare S", vec![65535]),
-    ];
-    if let Some(p) = stretch {
-        all.push(("long fixed stretch", row[p..table[p] as usize].to_vec()));
+fn patterns(name: &str, row: &[u16], table: &[u16]) -> Vec<(&'static str, Vec<u16>)> {
+    let over = |root: u16, leaf: u16| std::iter::once(root).chain(std::iter::repeat(leaf).take(alphabet()[root as usize] as usize)).collect::<Vec<u16>>();
+    let common = match name {
+        "chain" => ONE,
+        "15-ary" => FIFTEEN,
+        _ => TWO,
+    };
+    let mut all = vec![("rare root", over(15, 65535)), ("common root", over(common, 65535)), ("bare S", vec![65535])];
+    if common != ONE {
+        all.push(("repeated variables", over(common, 65280)));
+    }
+    let most = row.len().min(256);
+    let stretch = (0..row.len()).map(|p| (p, table[p] as usize - p)).filter(|&(_, size)| size <= most).max_by_key(|&(_, size)| size);
+    if let Some((p, size)) = stretch {
+        all.push(("long fixed stretch", row[p..p + size].to_vec()));
     }
     all
 }
@@ -269,8 +279,9 @@ fn row_of(bench: &mut Bench, name: &'static str, n: usize) {
     let right = table_of(&row);
     let mut table = right.clone();
     let mut out = vec![0; n];
+    bench.add("pass", "accepted", name, n, |by| pass(by, &arities, &row, &right));
     bench.add("build", "accepted", name, n, |by| build(by, &arities, &row, &mut table));
-    for (on, pattern) in patterns(&row, &right) {
+    for (on, pattern) in patterns(name, &row, &right) {
         bench.add("find", on, name, n, |by| find(by, &arities, &row, &right, &pattern, &mut out));
     }
     let mut spans = [0; 32];
@@ -299,6 +310,8 @@ fn replacements(bench: &mut Bench, name: &'static str, n: usize) {
             });
         }
     }
+    let (mut r, mut t) = (row.clone(), right);
+    bench.add("replace", "whole row", name, n, |by| replace(by, &arities, &mut r, &mut t, n, &row, 0));
 }
 
 /// Refused input: a bad last number, and a stale first and last entry.
@@ -331,6 +344,8 @@ fn main() {
             refusals(&mut bench, name, n);
         }
     }
-    std::fs::write(folder.join("measured.md"), picture::tables(&bench.measured)).expect("measured.md");
+    let bars = bars::table(&bench.measured);
+    eprint!("{bars}");
+    std::fs::write(folder.join("measured.md"), bars + &picture::tables(&bench.measured)).expect("measured.md");
     std::fs::write(folder.join("benchmarks.svg"), picture::lines(&bench.measured)).expect("benchmarks.svg");
 }
