@@ -63,10 +63,11 @@ use Rattle.sparrowhem.proofs.Replacing.{held-fine, replacement-fine, replacemen
 use Rattle.promises.specs.Runs.{edits, Holds}
 use Rattle.promises.specs.Edits.{movedSpan}
 use Rattle.promises.specs.Demands.{Build-one, Find-one, Variables-one, Replace-one, Subtree-one, Newer-one, Plain-one, Then-first, Build-order, Find-order, Variables-order, Replace-order, Subtree-order, Newer-order, Plain-order, FirstStale, Stale-first, Stale-check, Stale-number, StaleAt, Find-stale, Variables-stale, Replace-stale, Subtree-stale, Newer-stale, Rows-accepted, Patterns-accepted, Replacements-accepted, Trees, Turns, Find-exactly, Chosen, Has, Variables-exactly, Fits-exactly, Plain-exactly, After-run, Beside, Variables-stay, Find-stays, Demands}
+use Rattle.promises.proofs.Refusals.{sized-whole, refusals}
 use Rattle.promises.proofs.Agreeing.{then-then, then-fine, both-rows, search-left, plain-left}
 use Rattle.promises.proofs.Calls.{build-settled, build-refused, build-accepts, find-settled, find-refused, find-lists, find-short, variables-settled, variables-matched, variables-unmatched, variables-refused, newest-settled, newer-settled}
 use Rattle.promises.proofs.Plain.{plain-settled, plain-finds, plain-refuses}
-use Rattle.promises.proofs.Edits.{replace-settled, replace-refused, entries, others-stay, patterns-stay, any-run, putting-back}
+use Rattle.promises.proofs.Edits.{replace-settled, replace-refused, replace-writes, entries, others-stay, patterns-stay, any-run, putting-back}
 use Rattle.promises.proofs.Holding.{went, holds-changed, built-holds}
 use Rattle.promises.proofs.Spanning.{map-same}
 
@@ -485,8 +486,8 @@ rows-accepted A w =
 -- within the sizes a reading finds what stands in the list
 read-within : (A : List ℕ) (leaves : Leaves) (most : ℕ) (w : List ℕ) → 1 ≤ length w → length w ≤ most
     → reading A leaves most w ≡ verdict A (allowed leaves A) 1 0 w
-unfolding reading sized
-read-within A leaves most w some few = rw (le-ltb (length w) 1 some, le-ltb most (length w) few) refl
+unfolding reading
+read-within A leaves most w some few = rw (sized-whole (length w) most some few) refl
 
 pub patterns-accepted : Patterns-accepted
 unfolding pattern
@@ -692,6 +693,13 @@ held-parts A row t n e =
       beside = h .beside;
     }
 
+-- so no call refuses row and table
+held-given : (A row t : List ℕ) (n : ℕ) → heldCheck A row t n ≡ Fine → given A (take n row) t ≡ Fine
+unfolding given kept
+held-given A row t n e =
+    let k = held-parts A row t n e in
+    rw (k .alphabet-fine, k .sizes-fine (length t) (k .beside), k .symbols-fine, k .fresh-fine) refl
+
 -- a fresh build of what is held accepts it and gives its table
 fresh-built : (A row table : List ℕ) (n : ℕ) (f : Forest) → Holds A row table n f
     → (t : List ℕ) (r : Check) (t′ : List ℕ) → n ≤ length t → Built A (take n row) t r t′ → (r ≡ Fine) × (take n table ≡ take n t′)
@@ -709,16 +717,11 @@ after-run A row t table n h b x calls s run =
     let now = any-run A row t table n h b calls s run in
     record {
       row-is = now .row-is ∙ ap (λ (f : Forest). prefix (edits A f calls)) start;
+      accepted = held-given A (s .row) (s .table) (s .length) (now .fine);
       table-is = fresh-built A (s .row) (s .table) (s .length) _ now;
     }
 
 -- ---- the subtrees beside a replaced one
-
-held-given : (A row t : List ℕ) (n : ℕ) → heldCheck A row t n ≡ Fine → given A (take n row) t ≡ Fine
-unfolding given kept
-held-given A row t n e =
-    let k = held-parts A row t n e in
-    rw (k .alphabet-fine, k .sizes-fine (length t) (k .beside), k .symbols-fine, k .fresh-fine) refl
 
 -- what the contracts of the searches need of the subtree before and after
 record Same (A row table : List ℕ) (n p m : ℕ) (row′ table′ : List ℕ) (q q′ : ℕ) (Q : List ℕ) : Type 0 where
@@ -832,6 +835,7 @@ demands =
       subtree-one = subtree-one;
       newer-one = newer-one;
       plain-one = plain-one;
+      refusals = refusals;
       then-first = then-first;
       build-order = build-order;
       find-order = find-order;
@@ -862,6 +866,7 @@ demands =
       plain-exactly = plain-exactly;
       plain-finds = plain-finds;
       plain-refuses = plain-refuses;
+      replace-writes = replace-writes;
       after-run = after-run;
       variables-stay = variables-stay;
       find-stays = find-stays;

@@ -4,4 +4,5 @@ pub mod Calls
 pub mod Agreeing
 pub mod Plain
 pub mod Edits
+pub mod Refusals
 pub mod Demands

@@ -6,6 +6,9 @@
 -- `NewestSays`, and `PlainSays`, all in crates/sparrowhem/specs. That the code ends and meets its contract on every input is the
 -- call's own proof there (`build-spec`, `find-spec` and so on); this file says what the contracts come to.
 --
+-- To be read with crates/rows/specs, Pattern and Answers of crates/patterns/specs, Put of crates/edits/specs, crates/sparrowhem/specs,
+-- and beside this file Runs, and Calls, Plain and Edits for the statements that are only named here.
+--
 -- A is the alphabet, w the row, t its table, q the pattern, p the position, y the output, r the answer; ′ marks what a buffer
 -- holds afterwards.
 use Prim.Native.Nat.{ℕ, _+_, _-_, _<_, _≤_, min}
@@ -46,10 +49,11 @@ use Rattle.sparrowhem.specs.declared.parts.Newest.{Newest}
 use Rattle.sparrowhem.specs.declared.parts.Newest.the-variants.{Refused as NewestRefused}
 use Rattle.sparrowhem.specs.declared.matcher.Fits.{Fits}
 use Rattle.sparrowhem.specs.declared.matcher.Fits.the-variants.{Yes, No, Refused as PlainRefused}
+use Rattle.promises.specs.Refusals.{Refusals}
 use Rattle.promises.specs.Calls.{Build-refused, Build-accepts, Find-refused, Find-short, Variables-refused}
 use Rattle.promises.specs.Plain.{Plain-finds, Plain-refuses}
 use Rattle.promises.specs.Runs.{State, Call, Run, edits}
-use Rattle.promises.specs.Edits.{Replace-refused, movedSpan, Others-stay, Patterns-stay, Putting-back}
+use Rattle.promises.specs.Edits.{Replace-refused, Replace-writes, movedSpan, Others-stay, Patterns-stay, Putting-back}
 
 -- ==== DEMAND 1
 
@@ -92,8 +96,8 @@ abbrev pub Plain-one : Type 0
 Plain-one = (A w q : List ℕ) (p : ℕ) → One {X = Fits} (λ r. PlainSays A w q p r)
 
 -- "A faulty one is refused with a number and a place, the first in document 01's order": `number` and `place` give them for each
--- refusal. The order of a call is that of a chain of checks, each of which is fine or refuses. A chain refuses with x exactly if
--- its first check does, or if that is fine and the rest does.
+-- refusal, and `Refusals` says exactly when each check refuses. The order of a call is that of a chain of checks: it refuses with x
+-- exactly if its first check does, or if that is fine and the rest does.
 abbrev pub Then-first : Type 0
 Then-first = (a b : Check) (x : Refusal) → (a then b ≡ Refused x) ↔ ((a ≡ Refused x) ⊎ ((a ≡ Fine) × (b ≡ Refused x)))
 
@@ -221,6 +225,9 @@ Newer-stale = (A w t v u q : List ℕ) (r : Newest) (p : ℕ) → NewestSays A w
     → (StaleAt A w t (length w) (length t) p → r ≡ NewestRefused (Stale p))
     × (given A w t ≡ Fine → StaleAt A v u (length v) (length u) p → r ≡ NewestRefused (OnRecordStale p))
 
+-- "A refusal writes nothing into any lent buffer": `Build-refused`, `Find-refused`, `Variables-refused` and `Replace-refused`. The
+-- other calls are lent no buffer to write into.
+
 -- ==== DEMAND 2
 
 -- "Within 01's sizes a row is accepted exactly if it is the prefix notation of a ranked tree": `Build-accepts` says so of build.
@@ -248,7 +255,7 @@ Turns x p c = filled c 0 (single (x .pattern .tree)) ≡ single (subtreeAt (sing
 -- "An answered search lists a position exactly if some choice of trees for the blanks, the same tree wherever the same variable
 -- stands, turns the pattern into the subtree there; the list rises, each position once." The list is the first n places of the
 -- output, for the answer n; it has n positions, and later places stay.
-pub record Found-all (A w q y : List ℕ) (n : ℕ) (y′ : List ℕ) : Type 0 where
+pub record Found-exactly (A w q y : List ℕ) (n : ℕ) (y′ : List ℕ) : Type 0 where
   pub trees : Trees A w q
   pub exactly : (p : ℕ) → List·Memᴰ p (take n y′) ↔ ((p < length w) × ((c : Choice) × Turns trees p c))
   pub rises : (i j : ℕ) → i < j → j < n → getD y′ i 0 < getD y′ j 0
@@ -256,7 +263,7 @@ pub record Found-all (A w q y : List ℕ) (n : ℕ) (y′ : List ℕ) : Type 0 w
   pub later : drop n y′ ≡ drop n y
 
 abbrev pub Find-exactly : Type 0
-Find-exactly = (A w t q y : List ℕ) (n : ℕ) (y′ : List ℕ) → Finds A w t q y (Matches n) y′ → Found-all A w q y n y′
+Find-exactly = (A w t q y : List ℕ) (n : ℕ) (y′ : List ℕ) → Finds A w t q y (Matches n) y′ → Found-exactly A w q y n y′
 
 -- "the choice for each variable is returned, and no other would do": the symbols from b up to e are the row of the tree that any
 -- choice that turns the pattern into the subtree at p gives to variable i, and all of them give it the same tree
@@ -272,7 +279,7 @@ Has q i k = (k < length q) × (leaf (getD q k 0) ≡ Variable i)
 
 -- The variables call that does not refuse says whether there is such a choice. If there is, it leaves begin and end of each
 -- variable in the output, those of the subtree that the variable's first place faces; 0 and 0 for one that the pattern lacks.
-pub record Bound-all (A w q : List ℕ) (p : ℕ) (y : List ℕ) (r : Bound) (y′ : List ℕ) : Type 0 where
+pub record Bound-exactly (A w q : List ℕ) (p : ℕ) (y : List ℕ) (r : Bound) (y′ : List ℕ) : Type 0 where
   pub trees : Trees A w q
   pub below : p < length w
   pub matched : (r ≡ Matched) ↔ ((c : Choice) × Turns trees p c)
@@ -284,7 +291,7 @@ pub record Bound-all (A w q : List ℕ) (p : ℕ) (y : List ℕ) (r : Bound) (y�
 
 abbrev pub Variables-exactly : Type 0
 Variables-exactly = (A w t q : List ℕ) (p : ℕ) (y : List ℕ) (r : Bound) (y′ : List ℕ) → Binds A w t q p y r y′
-    → ((x : Refusal) → r ≡ BindRefused x → ⊥) → Bound-all A w q p y r y′
+    → ((x : Refusal) → r ≡ BindRefused x → ⊥) → Bound-exactly A w q p y r y′
 
 -- the plain matcher says the same, without a table
 pub record Fits-exactly (A w q : List ℕ) (p : ℕ) (r : Fits) : Type 0 where
@@ -296,12 +303,15 @@ pub record Fits-exactly (A w q : List ℕ) (p : ℕ) (r : Fits) : Type 0 where
 abbrev pub Plain-exactly : Type 0
 Plain-exactly = (A w q : List ℕ) (p : ℕ) (r : Fits) → PlainSays A w q p r → ((x : Refusal) → r ≡ PlainRefused x → ⊥) → Fits-exactly A w q p r
 
+-- "Plain matcher and find agree": `Plain-finds` on the positions, `Plain-refuses` on the refusals.
+
 -- ==== DEMAND 3
 
--- "The row is what the same replacements in the tree give, the table what a fresh build gives": what a caller holds, with the tree
--- f; and any build of that row, into a table with room for it, is accepted and gives that table.
+-- "The row is what the same replacements in the tree give, the table what a fresh build gives": a caller holds the row of the tree
+-- f, with a table that no call refuses; and any build of that row, into a table with room for it, is accepted and gives the same.
 pub record Follows (A : List ℕ) (s : State) (f : Forest) : Type 0 where
   pub row-is : take (s .length) (s .row) ≡ prefix f
+  pub accepted : given A (take (s .length) (s .row)) (s .table) ≡ Fine
   pub table-is : (t : List ℕ) (r : Check) (t′ : List ℕ) → s .length ≤ length t → Built A (take (s .length) (s .row)) t r t′
       → (r ≡ Fine) × (take (s .length) (s .table) ≡ take (s .length) t′)
 
@@ -312,8 +322,8 @@ After-run = (A row t table : List ℕ) (n : ℕ) → n ≤ length row → Built 
     → (x : IsRow A (symbol A) (take n row)) (calls : List Call) (s : State) → Run A (record { row = row; table = table; length = n }) calls s
     → Follows A s (edits A (single (x .tree)) calls)
 
--- A replacement at p, and a subtree at q that neither holds the replaced place nor lies in it: before, the subtree at k ends at
--- the table's entry k. Afterwards it stands at q′: at q if it stood to the left, else moved by the change in length, from n to m.
+-- A replacement at p, and a subtree at q that neither holds the replaced place nor lies in it: the subtree at k ends at entry k of
+-- the table before. Afterwards it stands at q′: at q if it stood to the left, else moved by the change in length, from n to m.
 pub record Beside (A row table : List ℕ) (n p m : ℕ) (row′ table′ : List ℕ) (q q′ : ℕ) : Type 0 where
   pub new : List ℕ
   pub change : ℤ
@@ -340,10 +350,12 @@ Find-stays = (A row table : List ℕ) (n p m : ℕ) (row′ table′ : List ℕ)
     → Finds A (take n row) table Q y (Matches a) y′ → Finds A (take m row′) table′ Q z (Matches b) z′
     → List·Memᴰ q′ (take b z′) ↔ List·Memᴰ q (take a y′)
 
+-- "Putting the old subtree straight back is never refused and restores row and table": `Putting-back`.
+
 -- ==== ALL OF THEM
 
 pub record Demands : Type 0 where
-  -- 1. Every input gets one outcome,
+  -- 1. Every input gets one outcome;
   pub build-one : Build-one
   pub find-one : Find-one
   pub variables-one : Variables-one
@@ -351,7 +363,8 @@ pub record Demands : Type 0 where
   pub subtree-one : Subtree-one
   pub newer-one : Newer-one
   pub plain-one : Plain-one
-  -- a faulty one the first refusal in document 01's order;
+  -- a faulty one is refused, with the first number in document 01's order and its place;
+  pub refusals : Refusals
   pub then-first : Then-first
   pub build-order : Build-order
   pub find-order : Find-order
@@ -362,7 +375,7 @@ pub record Demands : Type 0 where
   pub plain-order : Plain-order
   -- find gives 19 exactly if there are more matches than places;
   pub find-short : Find-short
-  -- "a refusal writes nothing into any lent buffer" (the other calls are lent none to write into);
+  -- a refusal writes nothing;
   pub build-refused : Build-refused
   pub find-refused : Find-refused
   pub variables-refused : Variables-refused
@@ -385,15 +398,16 @@ pub record Demands : Type 0 where
   pub find-exactly : Find-exactly
   pub variables-exactly : Variables-exactly
   pub plain-exactly : Plain-exactly
-  -- "plain matcher and find agree": in what they list, and in what they refuse.
+  -- plain matcher and find agree.
   pub plain-finds : Plain-finds
   pub plain-refuses : Plain-refuses
-  -- 3. After any run row and table are those of the changed tree;
+  -- 3. Each replacement leaves what it answers, and any run of them the row and the table of the changed tree;
+  pub replace-writes : Replace-writes
   pub after-run : After-run
-  -- a subtree beside the replaced one keeps its answers, for every pattern: as the calls give them, and as trees and matches;
+  -- a subtree beside the replaced one keeps its answers and variables, as the calls give them, and as trees and matches;
   pub variables-stay : Variables-stay
   pub find-stays : Find-stays
   pub others-stay : Others-stay
   pub patterns-stay : Patterns-stay
-  -- "putting the old subtree straight back is never refused and restores row and table".
+  -- putting the old subtree back restores row and table.
   pub putting-back : Putting-back
