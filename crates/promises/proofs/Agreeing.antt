@@ -50,7 +50,7 @@ build-row : (A w : List ℕ) (m : ℕ) → length w ≤ m → buildCheck A w m �
 unfolding buildCheck rowCheck
 build-row A w m h = ap (λ (c : Check). alphabet A then c) (row-alone A w m h)
 
-given-row : (A w t : List ℕ) → length w ≤ length t → given A w t ≡ rowCheck A w then fresh A w t
+pub given-row : (A w t : List ℕ) → length w ≤ length t → given A w t ≡ rowCheck A w then fresh A w t
 unfolding given kept rowCheck
 given-row A w t h =
     ap (λ (c : Check). alphabet A then c)

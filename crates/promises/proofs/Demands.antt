@@ -28,7 +28,7 @@ use Rattle.rows.proofs.Buffers.{written-front}
 use Rattle.rows.proofs.Entry.{length-table}
 use Rattle.rows.proofs.Parse.{size-parse}
 use Rattle.rows.proofs.Promises.{reads-rows, tree-of-row}
-use Rattle.tables.proofs.Given.{both-fine, row-fine, sizes-fits, right-entry}
+use Rattle.tables.proofs.Given.{both-fine, row-fine, sizes-fits, given-right, right-entry}
 use Rattle.patterns.specs.Searches.{Checked}
 use Rattle.patterns.specs.Walk.{comesThrough, listOf}
 use Rattle.patterns.specs.Answers.{MatchesAt, facing, spans}
@@ -62,9 +62,9 @@ use Rattle.sparrowhem.proofs.Preferring.{newer-checked}
 use Rattle.sparrowhem.proofs.Replacing.{held-fine, replacement-fine, replacement-whole, replace-held, replace-able}
 use Rattle.promises.specs.Runs.{edits, Holds}
 use Rattle.promises.specs.Edits.{movedSpan}
-use Rattle.promises.specs.Demands.{Build-one, Find-one, Variables-one, Replace-one, Subtree-one, Newer-one, Plain-one, Then-first, Build-order, Find-order, Variables-order, Replace-order, Subtree-order, Newer-order, Plain-order, FirstStale, Stale-first, Stale-check, Stale-number, StaleAt, Find-stale, Variables-stale, Replace-stale, Subtree-stale, Newer-stale, Rows-accepted, Patterns-accepted, Replacements-accepted, Trees, Turns, Find-exactly, Chosen, Has, Variables-exactly, Fits-exactly, Plain-exactly, After-run, Beside, Variables-stay, Find-stays, Demands}
+use Rattle.promises.specs.Demands.{Build-one, Find-one, Variables-one, Replace-one, Subtree-one, Newer-one, Plain-one, Then-first, Build-order, Find-order, Variables-order, Replace-order, Subtree-order, Newer-order, Plain-order, FirstStale, Stale-first, Stale-check, Stale-number, StaleAt, Find-stale, Variables-stale, Replace-stale, Subtree-stale, Newer-stale, Rows-accepted, Patterns-accepted, Replacements-accepted, Trees, Turns, Find-exactly, Chosen, Has, Variables-exactly, Fits-exactly, Plain-exactly, After-run, Beside, Variables-stay, Find-stays, Plain-stays, Demands}
 use Rattle.promises.proofs.Refusals.{sized-whole, refusals}
-use Rattle.promises.proofs.Agreeing.{then-then, then-fine, both-rows, search-left, plain-left}
+use Rattle.promises.proofs.Agreeing.{then-then, then-fine, both-rows, given-row, search-left, plain-left}
 use Rattle.promises.proofs.Calls.{build-settled, build-refused, build-accepts, find-settled, find-refused, find-lists, find-short, variables-settled, variables-matched, variables-unmatched, variables-refused, newest-settled, newer-settled}
 use Rattle.promises.proofs.Plain.{plain-settled, plain-finds, plain-refuses}
 use Rattle.promises.proofs.Edits.{replace-settled, replace-refused, replace-writes, entries, others-stay, patterns-stay, any-run, putting-back}
@@ -823,6 +823,25 @@ find-stays A row t n p m row′ t′ q q′ b Q y a y′ z k z′ before now =
       λ i. is .1 (same .after-below, same .matches .1 (was .0 i .1)),
     )
 
+plain-pattern : (A w t q : List ℕ) (p : ℕ) → given A w t ≡ Fine → p < length w → plainCheck A w q p ≡ pattern A q
+unfolding plainCheck position
+plain-pattern A w t q p g h =
+    let row = both-fine (rowCheck A w) (fresh A w t) (sym (given-row A w t (given-right A w t g .sized .fits)) ∙ g) .0 in
+    rw (row, lt-ltb p (length w) h) (then-fine (pattern A q))
+
+pub plain-stays : Plain-stays
+plain-stays A row t n p m row′ t′ q q′ b Q r s before now =
+    let same = beside-same A row t n p m row′ t′ q q′ b Q in
+    let c = plain-pattern A (take n row) t Q q (same .before-fine) (same .before-below) in
+    let c′ = plain-pattern A (take m row′) t′ Q q′ (same .after-fine) (same .after-below) in
+    plain-settled A (take m row′) Q q′ s r now (go r before (c′ ∙ sym c) (same .matches))
+  where
+    go : (r : Fits) → PlainSays A (take n row) Q q r → plainCheck A (take m row′) Q q′ ≡ plainCheck A (take n row) Q q
+        → MatchesAt A (take m row′) Q q′ ↔ MatchesAt A (take n row) Q q → PlainSays A (take m row′) Q q′ r
+    go Yes h c k = (c ∙ h .0, k .1 (h .1))
+    go No h c k = (c ∙ h .0, λ x. h .1 (k .0 x))
+    go (PlainRefused x) h c k = c ∙ h
+
 -- ==== ALL OF THEM
 
 pub demands : Demands
@@ -870,6 +889,7 @@ demands =
       after-run = after-run;
       variables-stay = variables-stay;
       find-stays = find-stays;
+      plain-stays = plain-stays;
       others-stay = others-stay;
       patterns-stay = patterns-stay;
       putting-back = putting-back;

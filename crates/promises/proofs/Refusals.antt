@@ -262,7 +262,7 @@ module _ (A : List ℕ) (ok : ℕ → Bool) where
 
   -- the same of one tree from the start on
   unfinished : (w : List ℕ) (i : ℕ) → Going 1 0 w i → Unfinished A ok w i
-  unfinished w i g = record { stand = g .0; unended = λ j h x. g .1 j h (reads-rows A ok (take j w) .1 x) }
+  unfinished w i g = record { stand = g .0; unended = λ j h x. g .1 j (omega arith) (reads-rows A ok (take j w) .1 x) }
 
   wrong : (x : ℕ) → T (ok x) → ok x ≡ false → ⊥
   wrong x h e = subst T e h

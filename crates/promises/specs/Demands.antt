@@ -350,6 +350,11 @@ Find-stays = (A row table : List ℕ) (n p m : ℕ) (row′ table′ : List ℕ)
     → Finds A (take n row) table Q y (Matches a) y′ → Finds A (take m row′) table′ Q z (Matches b) z′
     → List·Memᴰ q′ (take b z′) ↔ List·Memᴰ q (take a y′)
 
+-- and the plain matcher says the same of it, also where it refuses the pattern
+abbrev pub Plain-stays : Type 0
+Plain-stays = (A row table : List ℕ) (n p m : ℕ) (row′ table′ : List ℕ) (q q′ : ℕ) → Beside A row table n p m row′ table′ q q′
+    → (Q : List ℕ) (r s : Fits) → PlainSays A (take n row) Q q r → PlainSays A (take m row′) Q q′ s → s ≡ r
+
 -- "Putting the old subtree straight back is never refused and restores row and table": `Putting-back`.
 
 -- ==== ALL OF THEM
@@ -407,6 +412,7 @@ pub record Demands : Type 0 where
   -- a subtree beside the replaced one keeps its answers and variables, as the calls give them, and as trees and matches;
   pub variables-stay : Variables-stay
   pub find-stays : Find-stays
+  pub plain-stays : Plain-stays
   pub others-stay : Others-stay
   pub patterns-stay : Patterns-stay
   -- putting the old subtree back restores row and table.
