@@ -7,10 +7,10 @@
 -- call's own proof there (`build-spec`, `find-spec` and so on); this file says what the contracts come to.
 --
 -- To be read with crates/rows/specs, Pattern and Answers of crates/patterns/specs, Put of crates/edits/specs, crates/sparrowhem/specs,
--- and beside this file Runs, and Calls, Plain and Edits for the statements that are only named here.
+-- and beside this file Runs and Refusals, and Calls, Plain and Edits for the statements that are only named here.
 --
--- A is the alphabet, w the row, t its table, q the pattern, p the position, y the output, r the answer; ′ marks what a buffer
--- holds afterwards.
+-- A is the alphabet, w the row, t its table, q the pattern, p the position, y the output, r the answer; in a replacement n is the
+-- row length and v the replacement; v and u are also the row on record and its table. ′ marks what a buffer holds afterwards.
 use Prim.Native.Nat.{ℕ, _+_, _-_, _<_, _≤_, min}
 use mathlib.Core.Path.{_≡_}
 use mathlib.Core.List.{List, List·Memᴰ, map}
