@@ -63,7 +63,7 @@ use Rattle.sparrowhem.proofs.Replacing.{held-fine, replacement-fine, replacemen
 use Rattle.promises.specs.Runs.{edits, Holds}
 use Rattle.promises.specs.Edits.{movedSpan}
 use Rattle.promises.specs.Demands.{Build-one, Find-one, Variables-one, Replace-one, Subtree-one, Newer-one, Plain-one, Then-first, Build-order, Find-order, Variables-order, Replace-order, Subtree-order, Newer-order, Plain-order, FirstStale, Stale-first, Stale-check, Stale-number, StaleAt, Find-stale, Variables-stale, Replace-stale, Subtree-stale, Newer-stale, Rows-accepted, Patterns-accepted, Replacements-accepted, Trees, Turns, Find-exactly, Chosen, Has, Variables-exactly, Fits-exactly, Plain-exactly, After-run, Beside, Variables-stay, Find-stays, Plain-stays, Demands}
-use Rattle.promises.proofs.Refusals.{sized-whole, refusals}
+use Rattle.promises.proofs.Numbers.{sized-whole, numbers}
 use Rattle.promises.proofs.Agreeing.{then-then, then-fine, both-rows, given-row, search-left, plain-left}
 use Rattle.promises.proofs.Calls.{build-settled, build-refused, build-accepts, find-settled, find-refused, find-lists, find-short, variables-settled, variables-matched, variables-unmatched, variables-refused, newest-settled, newer-settled}
 use Rattle.promises.proofs.Plain.{plain-settled, plain-finds, plain-refuses}
@@ -854,7 +854,7 @@ demands =
       subtree-one = subtree-one;
       newer-one = newer-one;
       plain-one = plain-one;
-      refusals = refusals;
+      numbers = numbers;
       then-first = then-first;
       build-order = build-order;
       find-order = find-order;

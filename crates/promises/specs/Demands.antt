@@ -7,7 +7,7 @@
 -- call's own proof there (`build-spec`, `find-spec` and so on); this file says what the contracts come to.
 --
 -- To be read with crates/rows/specs, Pattern and Answers of crates/patterns/specs, Put of crates/edits/specs, crates/sparrowhem/specs,
--- and beside this file Runs and Refusals, and Calls, Plain and Edits for the statements that are only named here.
+-- and beside this file Runs and Numbers, and Calls, Plain and Edits for the statements that are only named here.
 --
 -- A is the alphabet, w the row, t its table, q the pattern, p the position, y the output, r the answer; in a replacement n is the
 -- row length and v the replacement; v and u are also the row on record and its table. ′ marks what a buffer holds afterwards.
@@ -49,7 +49,7 @@ use Rattle.sparrowhem.specs.declared.parts.Newest.{Newest}
 use Rattle.sparrowhem.specs.declared.parts.Newest.the-variants.{Refused as NewestRefused}
 use Rattle.sparrowhem.specs.declared.matcher.Fits.{Fits}
 use Rattle.sparrowhem.specs.declared.matcher.Fits.the-variants.{Yes, No, Refused as PlainRefused}
-use Rattle.promises.specs.Refusals.{Refusals}
+use Rattle.promises.specs.Numbers.{Numbers}
 use Rattle.promises.specs.Calls.{Build-refused, Build-accepts, Find-refused, Find-short, Variables-refused}
 use Rattle.promises.specs.Plain.{Plain-finds, Plain-refuses}
 use Rattle.promises.specs.Runs.{State, Call, Run, edits}
@@ -96,7 +96,7 @@ abbrev pub Plain-one : Type 0
 Plain-one = (A w q : List ℕ) (p : ℕ) → One {X = Fits} (λ r. PlainSays A w q p r)
 
 -- "A faulty one is refused with a number and a place, the first in document 01's order": `number` and `place` give them for each
--- refusal, and `Refusals` says exactly when each check refuses. The order of a call is that of a chain of checks: it refuses with x
+-- refusal, and `Numbers` says exactly when each is given. The order of a call is that of a chain of checks: it refuses with x
 -- exactly if its first check does, or if that is fine and the rest does.
 abbrev pub Then-first : Type 0
 Then-first = (a b : Check) (x : Refusal) → (a then b ≡ Refused x) ↔ ((a ≡ Refused x) ⊎ ((a ≡ Fine) × (b ≡ Refused x)))
@@ -369,7 +369,7 @@ pub record Demands : Type 0 where
   pub newer-one : Newer-one
   pub plain-one : Plain-one
   -- a faulty one is refused, with the first number in document 01's order and its place;
-  pub refusals : Refusals
+  pub numbers : Numbers
   pub then-first : Then-first
   pub build-order : Build-order
   pub find-order : Find-order

@@ -2,5 +2,5 @@ pub mod Calls
 pub mod Plain
 pub mod Runs
 pub mod Edits
-pub mod Refusals
+pub mod Numbers
 pub mod Demands

@@ -1,5 +1,5 @@
--- Document 01's table of refusals, line by line: exactly when each check refuses, and with which place. `number` in
--- crates/rows/specs/Refusals gives the number for each name. Proved in proofs/Refusals. (10 is `Stale-check` in Demands.)
+-- Document 01's table of refusals, line by line: exactly when each number is given, and with which place. `number` in
+-- crates/rows/specs/Refusals gives the number for each name. Proved in proofs/Numbers. (10 is `Stale-check` in Demands.)
 use Prim.Native.Nat.{ℕ, _<_, _≤_}
 use mathlib.Core.Path.{_≡_}
 use mathlib.Core.List.{List}
@@ -30,7 +30,7 @@ pub record Unfinished (A : List ℕ) (ok : ℕ → Bool) (w : List ℕ) (p : ℕ
   pub stand : (k : ℕ) → k < p → T (ok (getD w k 0))
   pub unended : (k : ℕ) → k ≤ p → IsRow A ok (take k w) → ⊥
 
-pub record Refusals : Type 0 where
+pub record Numbers : Type 0 where
   -- 1: alphabet empty or over 1,024. Its length.
   pub alphabet-size : (n : ℕ) (x : Refusal) → (alphabetSize n ≡ Refused x) ↔ ((x ≡ AlphabetSize n) × ((n ≡ 0) ⊎ (1024 < n)))
   -- 2: an arity over 15. First such symbol.

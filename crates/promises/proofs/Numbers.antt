@@ -1,4 +1,4 @@
--- Document 01's table of refusals, as specs/Refusals states it, with its proof.
+-- Document 01's table of refusals, as specs/Numbers states it, with its proof.
 -- Assumes nothing.
 use Prim.Native.Nat.{ℕ, zero, suc, _+_, _≤_, _<_, min}
 use mathlib.Core.Path.{_≡_, refl, sym, ap, _∙_, subst}
@@ -29,7 +29,7 @@ use Rattle.edits.proofs.Place.{grown-over, grown-fits}
 use Rattle.edits.proofs.Put.{below}
 use Rattle.sparrowhem.specs.Search.{output}
 use Rattle.sparrowhem.proofs.Handing.{clash}
-use Rattle.promises.specs.Refusals.{FirstOver, Unfinished, Refusals}
+use Rattle.promises.specs.Numbers.{FirstOver, Unfinished, Numbers}
 use Rattle.promises.proofs.Holding.{one-length}
 
 -- ---- tests of numbers
@@ -347,8 +347,8 @@ module _ (A : List ℕ) (ok : ℕ → Bool) where
           let same : q ≡ p = omega (arith, t .1) in
           e ∙ ap (λ (j : ℕ). Faulty (Extra j)) same
 
-pub refusals : Refusals
-refusals =
+pub numbers : Numbers
+numbers =
     record {
       alphabet-size = alphabet-size;
       arity-over = arity-over;
