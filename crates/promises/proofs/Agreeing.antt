@@ -24,15 +24,15 @@ use Rattle.sparrowhem.specs.Build.{buildCheck, Built}
 use Rattle.sparrowhem.specs.Plain.{rowCheck, plainCheck}
 use Rattle.sparrowhem.specs.Search.{searchCheck}
 
-then-then : (a b c : Check) → _then_ (_then_ a b) c ≡ a then b then c
+pub then-then : (a b c : Check) → _then_ (_then_ a b) c ≡ a then b then c
 then-then Fine b c = refl
 then-then (Refused r) b c = refl
 
-then-fine : (a : Check) → _then_ a Fine ≡ a
+pub then-fine : (a : Check) → _then_ a Fine ≡ a
 then-fine Fine = refl
 then-fine (Refused r) = refl
 
-both-rows : (a b : Verdict) → asRow (orElse a b) ≡ asRow a then asRow b
+pub both-rows : (a b : Verdict) → asRow (orElse a b) ≡ asRow a then asRow b
 both-rows Whole b = refl
 both-rows (Faulty f) b = refl
 
@@ -50,7 +50,7 @@ build-row : (A w : List ℕ) (m : ℕ) → length w ≤ m → buildCheck A w m �
 unfolding buildCheck rowCheck
 build-row A w m h = ap (λ (c : Check). alphabet A then c) (row-alone A w m h)
 
-given-row : (A w t : List ℕ) → length w ≤ length t → given A w t ≡ rowCheck A w then fresh A w t
+pub given-row : (A w t : List ℕ) → length w ≤ length t → given A w t ≡ rowCheck A w then fresh A w t
 unfolding given kept rowCheck
 given-row A w t h =
     ap (λ (c : Check). alphabet A then c)

@@ -82,7 +82,7 @@ others-stay A row t n v p m change row′ t′ o =
 -- ---- patterns
 
 -- the entry at k, and at k′ where the same subtree stands afterwards
-entries : (A w w′ : List ℕ) (k k′ : ℕ) → k < length w → k′ < length w′ → subtreeAt (parse A w′) k′ ≡ subtreeAt (parse A w) k
+pub entries : (A w w′ : List ℕ) (k k′ : ℕ) → k < length w → k′ < length w′ → subtreeAt (parse A w′) k′ ≡ subtreeAt (parse A w) k
     → (getD (tableOf A w) k 0 ≡ k + extent (parse A w) k) × (getD (tableOf A w′) k′ 0 ≡ k′ + extent (parse A w) k)
 unfolding tableOf
 entries A w w′ k k′ i j e =

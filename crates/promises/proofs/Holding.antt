@@ -3,6 +3,7 @@
 use Prim.Native.Nat.{ℕ, _+_, _-_, _≤_, _<_, min}
 use mathlib.Core.Path.{_≡_, refl, sym, ap, _∙_, subst}
 use mathlib.Core.List.{List, [], _++_, append-nil}
+use mathlib.Core.Bool.{Bool}
 use native.Mathlib.Omega.{arith}
 use lib.ListN.{length, take, drop, length-drop, take-append-drop}
 use lib.Seq.{length-take-le, take-add}
@@ -10,7 +11,7 @@ use lib.IntN.{ℤ, pos, _-ℤ_}
 use borrow.Author.Tests.{le-ltb}
 use Rattle.rows.specs.Tree.{Forest, single, size, count, prefix, ends, Ranked, IsRow}
 use Rattle.rows.specs.Parse.{parse, treeOf, table}
-use Rattle.rows.specs.Row.{Accepted, verdict, allowed, sized}
+use Rattle.rows.specs.Row.{verdict, allowed, sized}
 use Rattle.rows.specs.Buffers.{written, after}
 use Rattle.rows.specs.Refusals.{_then_, alphabet, sizes, symbols, differs, fresh, position}
 use Rattle.rows.specs.declared.Leaves.the-variants.{Symbols}
@@ -101,24 +102,27 @@ built-holds A row t t′ n h b =
     (sym (prefix-parse A w))
     (ap (take n) now ∙ ap (λ (k : ℕ). take k (written t 0 (table A w))) (sym (lt ∙ lw)) ∙ written-front t (table A w))
 
--- a held row has one length only
-longer : (A row : List ℕ) (n k : ℕ) → n ≤ k → k ≤ length row → Accepted A (take n row) → Accepted A (take k row) → n ≡ k
-longer A row n k h r a b =
-    let ok = allowed Symbols A in
-    let more : List ℕ = take (k - n) (drop n row) in
+-- a list has one beginning only that is a row
+pub one-length : (A : List ℕ) (ok : ℕ → Bool) (w : List ℕ) (n k : ℕ) → n ≤ k → k ≤ length w → IsRow A ok (take n w) → IsRow A ok (take k w) → n ≡ k
+one-length A ok w n k h r a b =
+    let more : List ℕ = take (k - n) (drop n w) in
     let up : n + (k - n) ≡ k = omega arith in
-    let cut : take k row ≡ take n row ++ more = ap (λ (j : ℕ). take j row) (sym up) ∙ take-add n (k - n) row in
-    let nothing = no-longer A ok ok (take n row) more (row-of-whole A ok (take n row) a) (subst (IsRow A ok) cut (row-of-whole A ok (take k row) b)) in
-    let fits : k - n ≤ length (drop n row) = omega (arith, length-drop n row) in
-    omega (arith, ap length nothing, length-take-le (k - n) (drop n row) fits)
+    let cut : take k w ≡ take n w ++ more = ap (λ (j : ℕ). take j w) (sym up) ∙ take-add n (k - n) w in
+    let nothing = no-longer A ok ok (take n w) more a (subst (IsRow A ok) cut b) in
+    let fits : k - n ≤ length (drop n w) = omega (arith, length-drop n w) in
+    omega (arith, ap length nothing, length-take-le (k - n) (drop n w) fits)
 
+-- so a held row has one length only
 pub held-once : (A row t : List ℕ) (n k : ℕ) → heldCheck A row t n ≡ Fine → heldCheck A row t k ≡ Fine → n ≡ k
 held-once A row t n k e d =
+    let ok = allowed Symbols A in
     let a = held-fine A row t n e in
     let b = held-fine A row t k d in
+    let x = row-of-whole A ok (take n row) (a .right .accepted) in
+    let y = row-of-whole A ok (take k row) (b .right .accepted) in
     below n k
-    (λ h. longer A row n k (omega arith) (b .within) (a .right .accepted) (b .right .accepted))
-    (λ h. sym (longer A row k n h (a .within) (b .right .accepted) (a .right .accepted)))
+    (λ h. one-length A ok row n k (omega arith) (b .within) x y)
+    (λ h. sym (one-length A ok row k n h (a .within) y x))
 
 -- ---- outcomes
 
