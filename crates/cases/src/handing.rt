@@ -12,7 +12,7 @@ use sparrowhem::Placed;
 // Begin and end, or the refusal; then the part.
 fn part(arities: &[u16], row: &[u16], table: &[u16], position: usize) {
     match sparrowhem::subtree_answer(arities, row, table, position) {
-        Placed::Unplaced(r) => refusal(r),
+        Placed::Refused(r) => refusal(r),
         Placed::Span(begin, end) => {
             text(b"span");
             number(begin as u64);

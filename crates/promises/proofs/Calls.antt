@@ -27,7 +27,7 @@ use Rattle.sparrowhem.specs.declared.parts.Newest.{Newest}
 use Rattle.sparrowhem.specs.declared.parts.Newest.the-variants.{Corrected, OnRecord, Nowhere, Refused as NewestRefused}
 use Rattle.sparrowhem.proofs.Preferring.{match-within, match-part, one-answer, kept-renumbered}
 use Rattle.sparrowhem.specs.declared.parts.Placed.{Placed}
-use Rattle.sparrowhem.specs.declared.parts.Placed.the-variants.{Span, Unplaced}
+use Rattle.sparrowhem.specs.declared.parts.Placed.the-variants.{Span, Refused as Unplaced}
 use Rattle.rows.specs.declared.Refusal.the-variants.{OutputShort}
 use Rattle.patterns.specs.Answers.{Listed, spans}
 use Rattle.patterns.specs.Walk.{listOf}

@@ -51,7 +51,7 @@ use Rattle.sparrowhem.specs.declared.search.Bound.{Bound}
 use Rattle.sparrowhem.specs.declared.search.Bound.the-variants.{Matched, Unmatched, Refused as BindRefused}
 use Rattle.sparrowhem.specs.declared.edit.Replaced.{Replaced}
 use Rattle.sparrowhem.specs.declared.edit.Replaced.the-variants.{Refused as Unreplaced}
-use Rattle.sparrowhem.specs.declared.parts.Placed.the-variants.{Unplaced}
+use Rattle.sparrowhem.specs.declared.parts.Placed.the-variants.{Refused as Unplaced}
 use Rattle.sparrowhem.specs.declared.parts.Newest.{Newest}
 use Rattle.sparrowhem.specs.declared.parts.Newest.the-variants.{Corrected, OnRecord, Nowhere, Refused as NewestRefused}
 use Rattle.sparrowhem.specs.declared.matcher.Fits.{Fits}

@@ -44,7 +44,7 @@ use Rattle.sparrowhem.specs.declared.search.Bound.the-variants.{Matched, Unmatc
 use Rattle.sparrowhem.specs.declared.edit.Replaced.{Replaced}
 use Rattle.sparrowhem.specs.declared.edit.Replaced.the-variants.{Done, Refused as Unreplaced}
 use Rattle.sparrowhem.specs.declared.parts.Placed.{Placed}
-use Rattle.sparrowhem.specs.declared.parts.Placed.the-variants.{Unplaced}
+use Rattle.sparrowhem.specs.declared.parts.Placed.the-variants.{Refused as Unplaced}
 use Rattle.sparrowhem.specs.declared.parts.Newest.{Newest}
 use Rattle.sparrowhem.specs.declared.parts.Newest.the-variants.{Refused as NewestRefused}
 use Rattle.sparrowhem.specs.declared.matcher.Fits.{Fits}

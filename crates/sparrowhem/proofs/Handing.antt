@@ -22,7 +22,7 @@ use Rattle.rows.proofs.Subtrees.{subtree-row}
 use Rattle.tables.specs.Given.{Right}
 use Rattle.tables.proofs.Given.{both-fine, given-right}
 use Rattle.sparrowhem.specs.Parts.{subtreeCheck, subtreePart, subtreeAnswer, placed}
-use Rattle.sparrowhem.specs.declared.parts.Placed.the-variants.{Span, Unplaced}
+use Rattle.sparrowhem.specs.declared.parts.Placed.the-variants.{Span, Refused as Unplaced}
 
 -- a check that is fine does not refuse
 pub clash : (c : Check) (y : Refusal) → c ≡ Fine → c ≡ Refused y → ⊥

@@ -15,7 +15,7 @@ use Rattle.patterns.specs.Answers.{MatchesAt}
 use Rattle.sparrowhem.specs.declared.parts.Newest.{Newest}
 use Rattle.sparrowhem.specs.declared.parts.Newest.the-variants.{Corrected, OnRecord as OnRecordAt, Nowhere, Refused as NewestRefused}
 use Rattle.sparrowhem.specs.declared.parts.Placed.{Placed}
-use Rattle.sparrowhem.specs.declared.parts.Placed.the-variants.{Span, Unplaced}
+use Rattle.sparrowhem.specs.declared.parts.Placed.the-variants.{Span, Refused as Unplaced}
 
 -- refusals 1 to 10, then 17
 unfoldable pub subtreeCheck : List ℕ → List ℕ → List ℕ → ℕ → Check

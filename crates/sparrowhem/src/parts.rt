@@ -7,7 +7,7 @@ use rows::Refusal;
 // Where a subtree stands in its row: begin and end, the end not included; or why the call refuses.
 pub enum Placed {
     Span(usize, usize),
-    Unplaced(Refusal),
+    Refused(Refusal),
 }
 
 // Refusals 1 to 10, and 17.
@@ -30,7 +30,7 @@ pub fn subtree_answer(arities: &[u16], row: &[u16], table: &[u16], position: usi
     ensures { λ r. ⌜ r ≡ subtreeAnswer (now (arities .entry)) (now (row .entry)) (now (table .entry)) position ⌝ }
 {
     match check_subtree(arities, row, table, position) {
-        Check::Refused(r) => Placed::Unplaced(r),
+        Check::Refused(r) => Placed::Refused(r),
         Check::Fine => Placed::Span(position, table[position] as usize),
     }
 }
@@ -40,7 +40,7 @@ pub fn subtree<'a>(arities: &[u16], row: &'a [u16], table: &[u16], position: usi
     ensures { λ r. ⌜ now r ≡ subtreePart (now (arities .entry)) (now (row .entry)) (now (table .entry)) position ⌝ }
 {
     match subtree_answer(arities, row, table, position) {
-        Placed::Unplaced(_) => &row[0..0],
+        Placed::Refused(_) => &row[0..0],
         Placed::Span(begin, end) => &row[begin..end],
     }
 }
