@@ -53,8 +53,8 @@
 **
 ** STACK
 **
-** sparrowhem_build needs under 1 KiB.  sparrowhem_find and sparrowhem_replace
-** work on copies on the stack, and need under 192 KiB.
+** sparrowhem_build needs under 33 KiB.  sparrowhem_find and sparrowhem_replace
+** work on copies on the stack, and need under 192 KiB and under 196 KiB.
 */
 #ifndef SPARROWHEM_H
 #define SPARROWHEM_H

@@ -1,4 +1,5 @@
-// Numbers in lent bytes: how answers cross, the checks of an alphabet and a row, and build, all on the bytes themselves.
+// Numbers in lent bytes: how answers cross, the checks of an alphabet and a row, and build, all on the bytes themselves. Build
+// keeps at most 32 KiB beside them.
 ghost use mathlib.Core.Path.{_≡_};
 ghost use Rattle.lent.specs.Answer.{refused};
 use rows::Refusal;

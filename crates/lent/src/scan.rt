@@ -79,27 +79,28 @@ pub fn arity_of(arities: &[u8], s: u16) -> u16
     }
 }
 
-// Is it a tree's prefix notation? One pass, counting the subtrees that are still to come.
+// Is it a tree's prefix notation? One pass, counting the symbols that are due: one for the root, and as many as each symbol so
+// far has children.
 pub fn check_row(arities: &[u8], row: &[u8]) -> Verdict
     requires { ⌜ length (numbers (now row)) ≤ 16384 ⌝ }
     ensures { λ r. ⌜ r ≡ verdict (numbers (now (arities .entry))) (symbol (numbers (now (arities .entry)))) 1 0 (numbers (now (row .entry))) ⌝ }
 {
     let symbols = wire::count(arities);
     let n = wire::count(row);
-    let mut need: usize = 1;
+    let mut due: usize = 1;
     let mut i = 0;
     while i < n {
-        if need == 0 {
+        if due == i {
             return Verdict::Faulty(Fault::Extra(i));
         }
         let s = wire::number_at(row, i) as usize;
         if symbols <= s {
             return Verdict::Faulty(Fault::Stray(i));
         }
-        need = need - 1 + wire::number_at(arities, s) as usize;
+        due += wire::number_at(arities, s) as usize;
         i += 1;
     }
-    if need == 0 {
+    if due == i {
         Verdict::Whole
     } else {
         Verdict::Faulty(Fault::Early(i))

@@ -1,8 +1,10 @@
--- `lent::check_row` meets its contract. The loop's invariant: the verdict on the row is that from i on, with `need` subtrees to come.
+-- `lent::check_row` meets its contract. The loop's invariant: the verdict on the row is that from i on, with as many subtrees
+-- to come as symbols are due beyond i.
 -- Assumes nothing.
 use Prim.Native.Nat.{ℕ, _≤_, _-_, _+_, _*_}
 use mathlib.Core.List.{List}
-use mathlib.Core.Path.{_≡_, refl, sym, _∙_}
+use mathlib.Core.Path.{_≡_, sym, ap, _∙_}
+use native.Mathlib.Omega.{arith}
 use lib.ListN.{length, drop, drop-of-length-le}
 use borrow.Author.Tests.{lt-ltb, le-ltb}
 use Rattle.rows.specs.Row.{verdict, symbol}
@@ -13,16 +15,17 @@ use Rattle.lent.proofs.scan.check_row.Statement.{statement}
 use Rattle.lent.proofs.scan.check_row.Tie as tie
 
 abbrev Inv-loop : tie.InvT-loop
-Inv-loop arities row symbols n need₀ i₀ need i =
+Inv-loop arities row symbols n due₀ i₀ due i =
     (symbols ≡ length (numbers arities))
     × (n ≡ length (numbers row))
     × (i ≤ n)
-    × (need ≤ 1 + 65535 * i)
+    × (i ≤ due)
+    × (due ≤ 1 + 65535 * i)
     × (verdict (numbers arities) (symbol (numbers arities)) 1 0 (numbers row)
-    ≡ verdict (numbers arities) (symbol (numbers arities)) need i (drop i (numbers row)))
+    ≡ verdict (numbers arities) (symbol (numbers arities)) (due - i) i (drop i (numbers row)))
 
 abbrev μ-loop : tie.MeasureT-loop
-μ-loop arities row symbols n need₀ i₀ need i = n - i
+μ-loop arities row symbols n due₀ i₀ due i = n - i
 
 count-requires : tie.Need-count-requires Inv-loop μ-loop
 count-requires c κs = search needs
@@ -38,12 +41,13 @@ module _ (l : tie.At-loop Inv-loop μ-loop) where
   w = numbers (l .before .before .before .before .before .args .row .now)
 
 loop-holds : tie.Need-loop-holds Inv-loop μ-loop
-loop-holds c = (search needs, search needs, search needs, search needs, refl)
+loop-holds c = search needs
 
 returns : tie.Need-returns Inv-loop μ-loop
 returns c =
     let l = c .before .before in
-    simp (l .loop .inv .4, c .if1 .taken, verdict-extra (A l) (symbol (A l)) (w l) (l .loop .i) (search needs))
+    let none : l .loop .due - l .loop .i ≡ 0 = omega (arith, c .if1 .taken) in
+    simp (l .loop .inv .5, none, verdict-extra (A l) (symbol (A l)) (w l) (l .loop .i) (search needs))
 
 number-at-requires : tie.Need-number-at-requires Inv-loop μ-loop
 number-at-requires c κs = search needs
@@ -55,23 +59,20 @@ returns-2 : tie.Need-returns-2 Inv-loop μ-loop
 returns-2 c =
     let l = c .before .before .before .before in
     simp (
-      l .loop .inv .4,
-      verdict-at (A l) (symbol (A l)) (w l) (l .loop .need) (l .loop .i) (search needs) (search needs),
+      l .loop .inv .5,
+      verdict-at (A l) (symbol (A l)) (w l) (l .loop .due - l .loop .i) (l .loop .i) (search needs) (search needs),
       sym (c .before .number-at .ensures),
       le-ltb (c .before .number-at .result) (length (A l)) (search needs),
     )
 
-sub-need : tie.Need-sub-need Inv-loop μ-loop
-sub-need c = search needs
-
 number-at-requires-2 : tie.Need-number-at-requires-2 Inv-loop μ-loop
 number-at-requires-2 c κs = search needs
 
-cast-need : tie.Need-cast-need Inv-loop μ-loop
-cast-need c = search needs
+cast-due : tie.Need-cast-due Inv-loop μ-loop
+cast-due c = search needs
 
-add-need : tie.Need-add-need Inv-loop μ-loop
-add-need c = search needs
+add-due : tie.Need-add-due Inv-loop μ-loop
+add-due c = search needs
 
 add-i : tie.Need-add-i Inv-loop μ-loop
 add-i c = search needs
@@ -86,23 +87,27 @@ loop-again c =
       search needs,
       search needs,
       search needs,
-      l .loop .inv .4
-          ∙ verdict-at (A l) (symbol (A l)) (w l) (l .loop .need) (l .loop .i) (search needs) (search needs)
-          ∙ simp (sym (c .before .before .number-at .ensures), lt-ltb (c .before .before .number-at .result) (length (A l)) (search needs), c .number-at2 .ensures),
+      search needs,
+      l .loop .inv .5
+          ∙ verdict-at (A l) (symbol (A l)) (w l) (l .loop .due - l .loop .i) (l .loop .i) (search needs) (search needs)
+          ∙ simp (sym (c .before .before .number-at .ensures), lt-ltb (c .before .before .number-at .result) (length (A l)) (search needs))
+          (ap (λ (n : ℕ). verdict (A l) (symbol (A l)) n (l .loop .i + 1) (drop (l .loop .i + 1) (w l)))
+          (omega (arith, c .number-at2 .ensures))),
     )
 
 returns-3 : tie.Need-returns-3 Inv-loop μ-loop
 returns-3 c =
     let l = c .before .before in
-    simp (l .loop .inv .4, c .if3 .taken, drop-of-length-le (w l) {i = l .loop .i} (search needs), verdict-whole (A l) (symbol (A l)) (l .loop .i))
+    let none : l .loop .due - l .loop .i ≡ 0 = omega (arith, c .if3 .taken) in
+    simp (l .loop .inv .5, none, drop-of-length-le (w l) {i = l .loop .i} (search needs), verdict-whole (A l) (symbol (A l)) (l .loop .i))
 
 returns-4 : tie.Need-returns-4 Inv-loop μ-loop
 returns-4 c =
     let l = c .before .before in
     simp (
-      l .loop .inv .4,
+      l .loop .inv .5,
       drop-of-length-le (w l) {i = l .loop .i} (search needs),
-      verdict-early (A l) (symbol (A l)) (l .loop .need) (l .loop .i) (search needs),
+      verdict-early (A l) (symbol (A l)) (l .loop .due - l .loop .i) (l .loop .i) (search needs),
     )
 
 pub check-row-spec : {M : Type 1} → statement M
@@ -118,10 +123,9 @@ check-row-spec =
     number-at-requires
     cast-s
     returns-2
-    sub-need
     number-at-requires-2
-    cast-need
-    add-need
+    cast-due
+    add-due
     add-i
     loop-less
     loop-again
