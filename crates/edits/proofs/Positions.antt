@@ -3,21 +3,12 @@
 -- Assumes nothing.
 use Prim.Native.Nat.{ℕ, zero, suc, _+_, _-_, _≤_, _<_}
 use mathlib.Core.Path.{_≡_, _∙_}
-use native.Mathlib.Nat.{zero-add, suc-add}
 use native.Mathlib.Omega.{arith}
-use Rattle.rows.specs.Tree.{Forest, Forest.none, Forest.grow, Tree, single, size, subtreeAt}
+use Rattle.rows.specs.Tree.{Forest, Forest.grow, Tree, single, size, subtreeAt}
 use Rattle.edits.specs.Put.{put, extent}
 use Rattle.edits.proofs.Put.{put-ind, put-in, put-right, put-root, put-size, put-below, at-root, at-in, at-right, at-fits, extent-in, extent-right, extent-root, size-single, below}
 
 -- ---- one position, again
-
--- u is what stands there now
-pub at-put : (u : Tree) (f : Forest) (p : ℕ) → p < size f → subtreeAt (put f p u) p ≡ u
-at-put u =
-    put-ind (λ f p. subtreeAt (put f p u) p ≡ u)
-    (λ s cs f. rw (put-root s cs f u) (at-root (u .symbol) (u .children) f))
-    (λ s cs f p i ih. rw (put-in s cs f p u i, at-in s (put cs p u) f p (put-below u cs p i)) ih)
-    (λ s cs f p i h ih. rw (put-right s cs f p u i, at-right s cs (put f (p - size cs) u) p i) ih)
 
 -- a second replacement at the same position takes the first one's place
 pub put-put : (u v : Tree) (f : Forest) (p : ℕ) → p < size f → put (put f p u) p v ≡ put f p v
@@ -39,39 +30,11 @@ put-same =
 pub put-back : (u : Tree) (f : Forest) (p : ℕ) → p < size f → put (put f p u) p (subtreeAt f p) ≡ f
 put-back u f p h = put-put u (subtreeAt f p) f p h ∙ put-same f p h
 
--- those of u stand from the position on
-abbrev Within : Tree → Forest → ℕ → Type 0
-Within u f p = (j : ℕ) → j < size (single u) → subtreeAt (put f p u) (p + j) ≡ subtreeAt (single u) j
-
-module _ (u : Tree) (s : ℕ) (cs f : Forest) where
-  within-here : Within u (grow s cs f) zero
-  within-here zero h = rw (put-root s cs f u, at-root (u .symbol) (u .children) f, at-root (u .symbol) (u .children) none)
-  within-here (suc j) h =
-      let i : j < size (u .children) = omega (arith, size-single u) in
-      rw (put-root s cs f u, zero-add, at-in (u .symbol) (u .children) f j i, at-in (u .symbol) (u .children) none j i)
-
-  within-in : (p : ℕ) → p < size cs → Within u cs p → Within u (grow s cs f) (suc p)
-  within-in p i ih j h =
-      let k : p + j < size (put cs p u) = omega (arith, put-size u cs p i, at-fits cs p i) in
-      rw (put-in s cs f p u i, suc-add, at-in s (put cs p u) f (p + j) k) (ih j h)
-
-  within-right : (p : ℕ) → size cs ≤ p → p - size cs < size f → Within u f (p - size cs) → Within u (grow s cs f) (suc p)
-  within-right p i k ih j h =
-      let e : p + j - size cs ≡ p - size cs + j = omega arith in
-      rw (put-right s cs f p u i, suc-add, at-right s cs (put f (p - size cs) u) (p + j) (omega arith), e) (ih j h)
-
-pub at-within : (u : Tree) (f : Forest) (p : ℕ) → p < size f → Within u f p
-at-within u = put-ind (Within u) (within-here u) (within-in u) (within-right u)
-
 -- ---- a position p to the right of q
 
 -- a subtree that ends before the position is the same
 abbrev Left : Tree → Forest → ℕ → Type 0
 Left u f q = (p : ℕ) → q + extent f q ≤ p → p < size f → subtreeAt (put f p u) q ≡ subtreeAt f q
-
--- one that holds it has the replacement made in it
-abbrev Above : Tree → Forest → ℕ → Type 0
-Above u f q = (p : ℕ) → q < p → p < q + extent f q → single (subtreeAt (put f p u) q) ≡ put (single (subtreeAt f q)) (p - q) u
 
 module _ (u : Tree) (s : ℕ) (cs f : Forest) where
   left-here : Left u (grow s cs f) zero
@@ -97,35 +60,8 @@ module _ (u : Tree) (s : ℕ) (cs f : Forest) where
       rw (put-right s cs f p u (omega arith), at-right s cs (put f (p - size cs) u) q i, at-right s cs f q i)
       (ih (p - size cs) (omega arith) (omega arith))
 
-  above-here : Above u (grow s cs f) zero
-  above-here zero o h = absurd (omega arith)
-  above-here (suc p) o h =
-      let i : p < size cs = omega (arith, extent-root s cs f) in
-      let e : suc p - 0 ≡ suc p = omega arith in
-      rw (put-in s cs f p u i, e, at-root s (put cs p u) f, at-root s cs f, put-in s cs none p u i)
-
-  above-in : (q : ℕ) → q < size cs → Above u cs q → Above u (grow s cs f) (suc q)
-  above-in q i ih zero o h = absurd (omega arith)
-  above-in q i ih (suc p) o h =
-      let x = extent-in s cs f q i in
-      let j : p < size cs = omega (arith, at-fits cs q i) in
-      let k : q < size (put cs p u) = omega (arith, put-below u cs p j) in
-      let e : suc p - suc q ≡ p - q = omega arith in
-      rw (put-in s cs f p u j, e, at-in s (put cs p u) f q k, at-in s cs f q i) (ih p (omega arith) (omega arith))
-
-  above-right : (q : ℕ) → size cs ≤ q → q - size cs < size f → Above u f (q - size cs) → Above u (grow s cs f) (suc q)
-  above-right q i k ih zero o h = absurd (omega arith)
-  above-right q i k ih (suc p) o h =
-      let x = extent-right s cs f q i in
-      let e : suc p - suc q ≡ p - size cs - (q - size cs) = omega arith in
-      rw (put-right s cs f p u (omega arith), e, at-right s cs (put f (p - size cs) u) q i, at-right s cs f q i)
-      (ih (p - size cs) (omega arith) (omega arith))
-
 pub at-left : (u : Tree) (f : Forest) (q : ℕ) → q < size f → Left u f q
 at-left u = put-ind (Left u) (left-here u) (left-in u) (left-right u)
-
-pub at-above : (u : Tree) (f : Forest) (q : ℕ) → q < size f → Above u f q
-at-above u = put-ind (Above u) (above-here u) (above-in u) (above-right u)
 
 -- ---- a position p to the left of q
 

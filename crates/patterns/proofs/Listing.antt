@@ -185,9 +185,6 @@ module _ (A w q : List ℕ) (count p : ℕ) (t : Tally A w q count p) where
   tally-end h = let e : p ≡ length w = omega (arith, t .within) in subst (λ (n : ℕ). Listed A w q n (t .positions)) e (t .listed)
 
   module _ (e : List ℕ) (c : Checked A w e q) where
-    pub tally-small : count ≤ p
-    tally-small = omega (arith, t .many, listed-length A w e q c p (t .positions) (t .within) (t .listed))
-
     -- where all matches have room, so has the one at p
     pub tally-room : p < length w → (n : ℕ) → Room w e q n → count < n
     tally-room h n room =

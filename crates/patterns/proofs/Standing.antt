@@ -6,7 +6,7 @@ use mathlib.Core.List.{List, [], _∷_, _++_, append-assoc, append-nil}
 use native.Mathlib.Omega.{arith}
 use native.Mathlib.Nat.{add-zero, zero-add}
 use native.Mathlib.Decide.{decLt}
-use lib.ListN.{getD, length, take, drop, length-drop, take-append-drop, List·getD-append}
+use lib.ListN.{getD, length, take, drop, take-append-drop, List·getD-append}
 use lib.Seq.{drop-drop, drop-append-seam, getD-drop, getD-append-add, take-at}
 use Rattle.rows.specs.Tree.{Forest, Forest.none, Forest.grow, Tree, single, size, prefix, ends, Ranked, subtrees, subtreeAt}
 use Rattle.rows.specs.Parse.{parse, table}
@@ -27,9 +27,6 @@ drop-head l b j x q = ap (λ (k : ℕ). getD l k 0) (sym (add-zero j)) ∙ sym (
 drop-next : (l b : List ℕ) (j x : ℕ) → drop j l ≡ x ∷ b → drop (j + 1) l ≡ b
 drop-next l b j x q = drop-on l (x ∷ []) b j q
 
-drop-inside : (l b : List ℕ) (j x : ℕ) → drop j l ≡ x ∷ b → j < length l
-drop-inside l b j x q = let n : length (x ∷ b) ≡ length l - j = sym (ap length q) ∙ length-drop j l in omega arith
-
 -- in the row w with the table e the forest F stands at position j
 pub record Stands (w e : List ℕ) (j : ℕ) (F : Forest) : Type 0 where
   pub more : List ℕ
@@ -45,9 +42,6 @@ module _ (w e : List ℕ) (j s : ℕ) (cs f : Forest) (h : Stands w e j (grow s 
   table-on : drop j e ≡ (j + size cs + 1) ∷ (ends (j + 1) cs ++ (ends (j + size cs + 1) f ++ h .later))
   unfolding ends
   table-on = h .table ∙ ap (λ (m : List ℕ). (j + size cs + 1) ∷ m) (append-assoc (ends (j + 1) cs) (ends (j + size cs + 1) f) (h .later))
-
-  pub stands-inside : j < length w
-  stands-inside = drop-inside w _ j s row-on
 
   pub stands-symbol : getD w j 0 ≡ s
   stands-symbol = drop-head w _ j s row-on

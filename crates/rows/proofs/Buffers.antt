@@ -1,9 +1,9 @@
 -- Laws of what is written into a buffer.
 -- Assumes nothing.
-use Prim.Native.Nat.{ℕ, _+_, _<_}
+use Prim.Native.Nat.{ℕ, _+_}
 use mathlib.Core.Path.{_≡_, refl}
 use mathlib.Core.List.{List}
-use lib.ListN.{length, getD, take, drop, List·getD-append}
+use lib.ListN.{length, take, drop}
 use lib.Seq.{take-at}
 use Rattle.rows.specs.Buffers.{written}
 
@@ -11,7 +11,3 @@ use Rattle.rows.specs.Buffers.{written}
 pub written-front : (b v : List ℕ) → take (length v) (written b 0 v) ≡ v
 unfolding written
 written-front b v = take-at v (drop (0 + length v) b) (length v) refl
-
-pub written-at : (b v : List ℕ) (p : ℕ) → p < length v → getD (written b 0 v) p 0 ≡ getD v p 0
-unfolding written
-written-at b v p h = List·getD-append v (drop (0 + length v) b) 0 p h

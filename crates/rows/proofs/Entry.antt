@@ -10,17 +10,16 @@ use native.Mathlib.Numerals.{add-one}
 use native.Mathlib.Decide.{decLe}
 use native.Mathlib.Omega.{arith}
 use lib.ListN.{length, getD, take, drop, length-drop}
-use lib.Seq.{getD-drop, drop-drop, take-at, take-add, length-take-le, take-take}
+use lib.Seq.{getD-drop, drop-drop, take-at, take-add, length-take-le}
 use Rattle.rows.specs.Tree.{Forest, Forest.none, Forest.grow, IsRow, count, size, prefix, Ranked, ends}
 use Rattle.rows.specs.Parse.{first, over, parse, table}
-use Rattle.rows.specs.Row.{verdict, arities}
+use Rattle.rows.specs.Row.{verdict}
 use Rattle.rows.specs.declared.Verdict.the-variants.{Whole}
 use Rattle.rows.proofs.Tree.{length-ends, length-prefix, size-split}
 use Rattle.rows.proofs.Parse.{prefix-parse, size-parse, no-longer}
 use Rattle.rows.proofs.Accept.{whole-drop, ranked-parse}
 use Rattle.rows.proofs.Scan.{drop-more}
 use Rattle.rows.proofs.Behind.{behind, ends-behind, size-behind}
-use Rattle.rows.proofs.Checksum.{row-iff-checks}
 
 pub length-table : (A w : List ℕ) → length (table A w) ≡ length w
 unfolding table
@@ -117,18 +116,3 @@ entry-only A ok ok′ w k at acc p e h lo hi r = go (decLe (e - p) (t - p))
     go : Dec (e - p ≤ t - p) → e ≡ t
     go (yes m) = omega (arith, bounds, same-end A ok′ ok (drop p w) (e - p) (t - p) m (omega (arith, bounds, length-drop p w)) r row)
     go (no m) = omega (arith, bounds, same-end A ok ok′ (drop p w) (t - p) (e - p) (omega arith) (omega (arith, length-drop p w)) row r)
-
--- the open count of p's subtree, 1 and the arities less the symbols read, is 0 at the entry and at least 1 before it
-pub entry-open : (A : List ℕ) (ok : ℕ → Bool) (w : List ℕ) (k at : ℕ) → verdict A ok k at w ≡ Whole → (p : ℕ) → p < length w
-    → let n : ℕ = getD (table A w) p 0 - p in
-    (arities A (take n (drop p w)) + 1 ≡ n) × ((j : ℕ) → j < n → j < arities A (take j (drop p w)) + 1)
-entry-open A ok w k at e p h =
-    let n : ℕ = getD (table A w) p 0 - p in
-    let l : List ℕ = drop p w in
-    let b = entry-bounds A w p h in
-    let long : length (take n l) ≡ n = length-take-le n l (omega (arith, length-drop p w)) in
-    let c = row-iff-checks A ok (take n l) .0 (entry-row A ok w k at e p h) .1 in (
-      c .zero-at-end ∙ long,
-      λ j m.
-          subst (λ (v : List ℕ). j < arities A v + 1) (take-take j n l (omega arith)) (c .positive-before j (omega arith)),
-    )

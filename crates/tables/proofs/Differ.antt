@@ -1,19 +1,18 @@
 -- Laws of the check of a table: what `differs` says entry by entry, and the one pass from right to left.
 -- Assumes nothing.
-use Prim.Native.Nat.{ℕ, zero, suc, _+_, _<_}
+use Prim.Native.Nat.{ℕ, _+_}
 use mathlib.Core.Path.{_≡_, refl, ap₂}
 use mathlib.Core.List.{List, [], _∷_, _++_}
 use mathlib.Core.Bool.{Bool, true, false}
 use native.Mathlib.Omega.{arith}
 use borrow.Author.Tests.{eq-eqb, eqb-true}
 use lib.Dec.{eqb}
-use lib.ListN.{length, getD, take, drop}
+use lib.ListN.{length, take}
 use Rattle.rows.specs.Row.{pick}
 use Rattle.rows.specs.Refusals.{differs}
 use Rattle.rows.specs.declared.Refusal.the-variants.{Stale}
 use Rattle.rows.specs.declared.Check.{Check}
 use Rattle.rows.specs.declared.Check.the-variants.{Fine, Refused}
-use Rattle.rows.proofs.Scan.{drop-more}
 
 -- a list that starts with the other one does not differ from it
 pub differs-same : (at : ℕ) (l r : List ℕ) → differs at l (l ++ r) ≡ Fine
@@ -33,4 +32,3 @@ differs-whole at (x ∷ l) [] e = let z : _≡_ {A = ℕ} 0 1 = cc in absurd (om
 differs-whole at (x ∷ l) (y ∷ t) e =
     let h = picked (eqb y x) _ at e in
     ap₂ (λ (n : ℕ) (m : List ℕ). n ∷ m) (eqb-true y x (h .0)) (differs-whole (at + 1) l t (h .1))
-

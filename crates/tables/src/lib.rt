@@ -28,13 +28,7 @@ pub fn short_room() -> [u16; 256]
 // The ends of an accepted row that stands from position `at` on are written from there on, from right to left. `standing`
 // holds the ends of the trees that stand side by side behind p, the last tree's first: a subtree ends where the last of its
 // children does, and one without children where the next tree begins.
-fn fill_beside(
-    arities: &[u16],
-    row: &[u16],
-    table: &mut [u16],
-    at: usize,
-    standing: &mut [u16],
-)
+fn fill_beside(arities: &[u16], row: &[u16], table: &mut [u16], at: usize, standing: &mut [u16])
     requires { ⌜ Fillable (now arities) (now row) (now table) at ⌝ }
     requires { ⌜ length (now row) ≤ length (now standing) ⌝ }
     ensures { λ r. ⌜ now (table .exit) ≡ written (now (table .entry)) at (ends at (parse (now (arities .entry)) (now (row .entry)))) ⌝ }
@@ -103,7 +97,11 @@ fn compare_beside(arities: &[u16], row: &[u16], table: &[u16], standing: &mut [u
         stale = first_stale(p, table[p], standing[trees], stale);
         trees += 1;
     }
-    if trees == 1 { Seen::Tree(stale) } else { Seen::NoTree }
+    if trees == 1 {
+        Seen::Tree(stale)
+    } else {
+        Seen::NoTree
+    }
 }
 
 // Is the row one tree's, and where is the first entry of the table that is not the row's?

@@ -1,8 +1,6 @@
 -- `tables::check_right` meets its contract. What the one pass sees decides; only where it sees no tree the row's first fault is asked for.
 -- Assumes nothing.
 use mathlib.Core.Path.{sym, _∙_, subst}
-use mathlib.Core.List.{List}
-use Prim.Native.Nat.{ℕ}
 use borrow.Author.Tests.{lt-ltb, le-ltb}
 use Rattle.tables.specs.Given.{Sees}
 use Rattle.tables.proofs.Given.{refused-first}

@@ -11,9 +11,6 @@ use Rattle.tables.proofs.Pass.{Passed, passed-none, stop-stray, stop-fe
 use borrow.Author.Needs.{needs}
 use Rattle.tables.proofs.compare_beside.Statement.{statement}
 use Rattle.tables.proofs.compare_beside.Tie as tie
-use Rattle.tables.proofs.compare_beside.Reads as reads
-use Rattle.tables.proofs.compare_beside.Lts as lts
-use Rattle.tables.proofs.first_stale.Reads as first-stale-reads
 
 abbrev Inv-loop : tie.InvT-loop
 Inv-loop arities row table standing₀ trees₀ stale₀ p₀ standing trees stale p =

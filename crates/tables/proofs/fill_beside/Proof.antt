@@ -12,13 +12,10 @@ use Rattle.rows.specs.Row.{allowed}
 use Rattle.rows.specs.declared.Leaves.the-variants.{Symbols}
 use Rattle.rows.proofs.Behind.{behind, enough-behind}
 use Rattle.tables.proofs.Fill.{partly, partly-none, partly-all, partly-more}
-use Rattle.tables.proofs.Standing.{Standing, standing-none, few-behind, Turn, turn-end, turn-count, turn-standing}
+use Rattle.tables.proofs.Standing.{Standing, standing-none, Turn, turn-end, turn-count, turn-standing}
 use borrow.Author.Needs.{needs}
 use Rattle.tables.proofs.fill_beside.Statement.{statement}
 use Rattle.tables.proofs.fill_beside.Tie as tie
-use Rattle.tables.proofs.fill_beside.Reads as reads
-use Rattle.tables.proofs.fill_beside.Lts as lts
-use Rattle.rows.proofs.arity_of.Reads as arity-of-reads
 
 abbrev Inv-loop : tie.InvT-loop
 Inv-loop arities row table₀ at standing₀ trees₀ p₀ table standing trees p =
