@@ -253,13 +253,22 @@ impl Bench {
 
 // ---- what is called
 
-fn patterns(name: &str, row: &[u16], table: &[u16]) -> Vec<(&'static str, Vec<u16>)> {
-    let over = |root: u16, leaf: u16| std::iter::once(root).chain(std::iter::repeat(leaf).take(alphabet()[root as usize] as usize)).collect::<Vec<u16>>();
-    let common = match name {
+/// A symbol over as many of the same leaf as it has children.
+fn over(root: u16, leaf: u16) -> Vec<u16> {
+    std::iter::once(root).chain(std::iter::repeat(leaf).take(alphabet()[root as usize] as usize)).collect()
+}
+
+/// A symbol that stands in many places of a row of this shape.
+fn common(name: &str) -> u16 {
+    match name {
         "chain" => ONE,
         "15-ary" => FIFTEEN,
         _ => TWO,
-    };
+    }
+}
+
+fn patterns(name: &str, row: &[u16], table: &[u16]) -> Vec<(&'static str, Vec<u16>)> {
+    let common = common(name);
     let mut all = vec![("rare root", over(15, 65535)), ("common root", over(common, 65535)), ("bare S", vec![65535])];
     if common != ONE {
         all.push(("repeated variables", over(common, 65280)));
@@ -287,6 +296,11 @@ fn row_of(bench: &mut Bench, name: &'static str, n: usize) {
     let mut spans = [0; 32];
     bench.add("variables", "bare X0", name, n, |by| variables(by, &arities, &row, &right, &[65280], 0, &mut spans));
     bench.add("plain matcher", "bare X0", name, n, |by| plain_match(by, &arities, &row, &[65280], 0));
+    let first = (0..n).find(|&p| row[p] == common(name)).unwrap_or(0);
+    for (on, leaf) in [("common root over S", 65535), ("common root over X0", 65280)] {
+        let pattern = over(row[first], leaf);
+        bench.add("plain matcher", on, name, n, |by| plain_match(by, &arities, &row, &pattern, first));
+    }
     let last = (0..n).rev().find(|&p| row[p] > 1).unwrap_or(0);
     let own = &row[last..right[last] as usize];
     bench.add("plain matcher", "last node", name, n, |by| plain_match(by, &arities, &row, own, last));
