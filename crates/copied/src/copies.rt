@@ -10,29 +10,11 @@ use lent::Answer;
 use rows::Check;
 use rows::Refusal;
 
-pub fn shorter(a: usize, b: usize) -> usize
-    ensures { λ r. ⌜ r ≡ min a b ⌝ }
-{
-    if a < b { a } else { b }
-}
-
-// Room for the longest alphabet, pattern, and row or table.
+// Room for the longest alphabet.
 fn alphabet_room() -> [u16; 1024]
     ensures { λ r. ⌜ 1024 ≡ length r ⌝ }
 {
     [0u16; 1024]
-}
-
-fn pattern_room() -> [u16; 256]
-    ensures { λ r. ⌜ 256 ≡ length r ⌝ }
-{
-    [0u16; 256]
-}
-
-pub fn row_room() -> [u16; 16384]
-    ensures { λ r. ⌜ 16384 ≡ length r ⌝ }
-{
-    [0u16; 16384]
 }
 
 // The first n numbers.
@@ -49,7 +31,7 @@ pub fn pattern_of(bytes: &[u8], n: usize) -> [u16; 256]
     requires { ⌜ (n ≤ 256) × (n ≤ length (numbers (now bytes))) ⌝ }
     ensures { λ r. ⌜ Copy (numbers (now (bytes .entry))) n 256 r ⌝ }
 {
-    let mut copy = pattern_room();
+    let mut copy = tables::short_room();
     wire::decode(bytes, &mut copy[..n]);
     copy
 }
@@ -58,7 +40,7 @@ pub fn row_of(bytes: &[u8], n: usize) -> [u16; 16384]
     requires { ⌜ (n ≤ 16384) × (n ≤ length (numbers (now bytes))) ⌝ }
     ensures { λ r. ⌜ Copy (numbers (now (bytes .entry))) n 16384 r ⌝ }
 {
-    let mut copy = row_room();
+    let mut copy = tables::long_room();
     wire::decode(bytes, &mut copy[..n]);
     copy
 }

@@ -22,8 +22,8 @@ fn replace_in(
     requires { ⌜ Copyable (now arities) n (min (length (numbers (now row))) (length (numbers (now table)))) ⌝ }
     ensures { λ r. ⌜ ReplacedBytes (now (arities .entry)) (now (row .entry)) (now (table .entry)) n (now (replacement .entry)) position r (now (row .exit)) (now (table .exit)) ⌝ }
 {
-    let k = crate::copies::shorter(wire::count(row), 16384);
-    let j = crate::copies::shorter(wire::count(table), 16384);
+    let k = rows::shorter(wire::count(row), 16384);
+    let j = rows::shorter(wire::count(table), 16384);
     let mut w = crate::copies::row_of(row, k);
     let mut t = crate::copies::row_of(table, j);
     match sparrowhem::replace(arities, &mut w[..k], &mut t[..j], n, replacement, position) {
@@ -73,7 +73,7 @@ pub fn replace(
 ) -> Answer
     ensures { λ r. ⌜ ReplacedBytes (numbers (now (arities .entry))) (now (row .entry)) (now (table .entry)) n (numbers (now (replacement .entry))) position r (now (row .exit)) (now (table .exit)) ⌝ }
 {
-    let room = crate::copies::shorter(wire::count(row), wire::count(table));
+    let room = rows::shorter(wire::count(row), wire::count(table));
     match lent::check_sizes(arities, n, room) {
         Check::Refused(r) => lent::refusal_of(r),
         Check::Fine => {

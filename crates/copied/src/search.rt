@@ -15,8 +15,8 @@ fn find_out(arities: &[u16], row: &[u16], table: &[u16], pattern: &[u16], out: &
     requires { ⌜ length (now row) ≤ 16384 ⌝ }
     ensures { λ r. ⌜ FoundBytes (now (arities .entry)) (now (row .entry)) (now (table .entry)) (now (pattern .entry)) (now (out .entry)) r (now (out .exit)) ⌝ }
 {
-    let k = crate::copies::shorter(wire::count(out), 16384);
-    let mut positions = crate::copies::row_room();
+    let k = rows::shorter(wire::count(out), 16384);
+    let mut positions = tables::long_room();
     match sparrowhem::find(arities, row, table, pattern, &mut positions[..k]) {
         Found::Refused(r) => lent::refusal_of(r),
         Found::Matches(count) => {

@@ -22,7 +22,7 @@ use Rattle.patterns.proofs.Matching.{right}
 abbrev pub Rises : List ℕ → Type 0
 Rises ps = (i : ℕ) → i + 1 < length ps → getD ps i 0 < getD ps (i + 1) 0
 
-mem-at : (ps : List ℕ) (i : ℕ) → i < length ps → List·Memᴰ (getD ps i 0) ps
+pub mem-at : (ps : List ℕ) (i : ℕ) → i < length ps → List·Memᴰ (getD ps i 0) ps
 mem-at [] i h = absurd (omega arith)
 mem-at (x ∷ ps) zero h = List·Memᴰ·head refl
 mem-at (x ∷ ps) (suc i) h = List·Memᴰ·tail (mem-at ps i (omega arith))

@@ -20,11 +20,11 @@ use Rattle.rows.specs.declared.Refusal.{Refusal}
 use Rattle.rows.specs.declared.Check.{Check}
 use Rattle.rows.specs.declared.Check.the-variants.{Fine, Refused}
 use Rattle.rows.proofs.Tree.{length-prefix, length-ends}
-use Rattle.rows.proofs.Parse.{prefix-parse, size-parse, parse-prefix, no-longer}
+use Rattle.rows.proofs.Parse.{prefix-parse, size-parse, parse-prefix}
 use Rattle.rows.proofs.Accept.{verdict-forest, count-parse, ranked-parse, row-of-whole, parse-whole}
 use Rattle.rows.proofs.Buffers.{written-front}
 use Rattle.rows.proofs.Scan.{verdict-whole}
-use Rattle.rows.proofs.Entry.{length-table}
+use Rattle.rows.proofs.Entry.{length-table, same-end}
 use Rattle.tables.proofs.Given.{both-fine, sizes-fits}
 use Rattle.tables.proofs.Differ.{differs-same}
 use Rattle.buffers.specs.Renewed.{renewed}
@@ -102,16 +102,6 @@ built-holds A row t t′ n h b =
     (sym (prefix-parse A w))
     (ap (take n) now ∙ ap (λ (k : ℕ). take k (written t 0 (table A w))) (sym (lt ∙ lw)) ∙ written-front t (table A w))
 
--- a list has one beginning only that is a row
-pub one-length : (A : List ℕ) (ok : ℕ → Bool) (w : List ℕ) (n k : ℕ) → n ≤ k → k ≤ length w → IsRow A ok (take n w) → IsRow A ok (take k w) → n ≡ k
-one-length A ok w n k h r a b =
-    let more : List ℕ = take (k - n) (drop n w) in
-    let up : n + (k - n) ≡ k = omega arith in
-    let cut : take k w ≡ take n w ++ more = ap (λ (j : ℕ). take j w) (sym up) ∙ take-add n (k - n) w in
-    let nothing = no-longer A ok ok (take n w) more a (subst (IsRow A ok) cut b) in
-    let fits : k - n ≤ length (drop n w) = omega (arith, length-drop n w) in
-    omega (arith, ap length nothing, length-take-le (k - n) (drop n w) fits)
-
 -- so a held row has one length only
 pub held-once : (A row t : List ℕ) (n k : ℕ) → heldCheck A row t n ≡ Fine → heldCheck A row t k ≡ Fine → n ≡ k
 held-once A row t n k e d =
@@ -121,8 +111,8 @@ held-once A row t n k e d =
     let x = row-of-whole A ok (take n row) (a .right .accepted) in
     let y = row-of-whole A ok (take k row) (b .right .accepted) in
     below n k
-    (λ h. one-length A ok row n k (omega arith) (b .within) x y)
-    (λ h. sym (one-length A ok row k n h (a .within) y x))
+    (λ h. same-end A ok ok row n k (omega arith) (b .within) x y)
+    (λ h. sym (same-end A ok ok row k n h (a .within) y x))
 
 -- ---- outcomes
 

@@ -30,7 +30,7 @@ use Rattle.edits.proofs.Put.{below}
 use Rattle.sparrowhem.specs.Search.{output}
 use Rattle.sparrowhem.proofs.Handing.{clash}
 use Rattle.promises.specs.Numbers.{FirstOver, Unfinished, Numbers}
-use Rattle.promises.proofs.Holding.{one-length}
+use Rattle.rows.proofs.Entry.{same-end}
 
 -- ---- tests of numbers
 
@@ -330,7 +330,7 @@ module _ (A : List ℕ) (ok : ℕ → Bool) where
           subst (λ (i : ℕ). (i < length w) × IsRow A ok (take i w)) same (t .2, reads-rows A ok (take (t .0) w) .0 (t .3))
 
       from : (p < length w) × IsRow A ok (take p w) → (v : Verdict) → verdict A ok 1 0 w ≡ v → Says 1 0 w v → verdict A ok 1 0 w ≡ Faulty (Extra p)
-      from c Whole e t = absurd (omega (arith, c .0, one-length A ok w p (length w) (omega (arith, c .0)) (omega arith) (c .1) (whole-begins w e)))
+      from c Whole e t = absurd (omega (arith, c .0, same-end A ok ok w p (length w) (omega (arith, c .0)) (omega arith) (c .1) (whole-begins w e)))
       from c (Faulty Empty) e t = absurd t
       from c (Faulty (Long k)) e t = absurd t
       from c (Faulty (Stray q)) e t =
@@ -342,8 +342,8 @@ module _ (A : List ℕ) (ok : ℕ → Bool) where
           let row = reads-rows A ok (take (t .0) w) .0 (t .3) in
           let once : t .0 ≡ p =
           below (t .0) p
-          (λ h. one-length A ok w (t .0) p (omega arith) (omega (arith, c .0)) row (c .1))
-          (λ h. sym (one-length A ok w p (t .0) h (omega (arith, t .2)) (c .1) row)) in
+          (λ h. same-end A ok ok w (t .0) p (omega arith) (omega (arith, c .0)) row (c .1))
+          (λ h. sym (same-end A ok ok w p (t .0) h (omega (arith, t .2)) (c .1) row)) in
           let same : q ≡ p = omega (arith, t .1) in
           e ∙ ap (λ (j : ℕ). Faulty (Extra j)) same
 

@@ -90,7 +90,7 @@ entry-row A ok w k at e p h =
     subst (λ (l : List ℕ). IsRow A ok l) (ap₂ take (sym long) (prefix-parse A (drop p w)))
     (head-row A ok (behind A w p) (behind-some A w p h) (ranked-parse A ok (drop p w) (d .0) (d .1) (d .2)))
 
-same-end : (A : List ℕ) (ok ok′ : ℕ → Bool) (l : List ℕ) (i j : ℕ) → i ≤ j → j ≤ length l → IsRow A ok (take i l) → IsRow A ok′ (take j l) → i ≡ j
+pub same-end : (A : List ℕ) (ok ok′ : ℕ → Bool) (l : List ℕ) (i j : ℕ) → i ≤ j → j ≤ length l → IsRow A ok (take i l) → IsRow A ok′ (take j l) → i ≡ j
 same-end A ok ok′ l i j h m r q =
     let up : i + (j - i) ≡ j = omega arith in
     let cut : take j l ≡ take i l ++ take (j - i) (drop i l) = ap (λ (n : ℕ). take n l) (sym up) ∙ take-add i (j - i) l in

@@ -2,7 +2,7 @@
 ghost use mathlib.Core.Path.{_≡_};
 ghost use mathlib.Core.Bool.{Bool};
 ghost use mathlib.Core.List.{List, []};
-ghost use Prim.Native.Nat.{ℕ, _+_, _-_, _*_, _≤_, _<_};
+ghost use Prim.Native.Nat.{ℕ, _+_, _-_, _*_, _≤_, _<_, min};
 ghost use lib.ListN.{length, getD};
 ghost use Rattle.rows.specs.Row.{verdict, Reads, isVariable, allowed, sized, reading};
 ghost use Rattle.rows.specs.Refusals.{rowNumber, onRecordNumber, patternNumber, replacementNumber, faultPlace, number, place, aritiesFit, someLeaf, alphabet, sizes, symbols};
@@ -338,6 +338,13 @@ pub fn check_reading(arities: &[u16], list: &[u16], leaves: Leaves, most: usize)
         Verdict::Faulty(f) => Verdict::Faulty(f),
         Verdict::Whole => check_row(arities, list, leaves),
     }
+}
+
+// The shorter of two lengths.
+pub fn shorter(a: usize, b: usize) -> usize
+    ensures { λ r. ⌜ r ≡ min a b ⌝ }
+{
+    if a < b { a } else { b }
 }
 
 // Refusals 4, 5 and 6, for a row of n symbols and buffers with `room` places or more.

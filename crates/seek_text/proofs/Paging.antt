@@ -2,7 +2,7 @@
 -- Assumes nothing.
 use Prim.Native.Nat.{ℕ, zero, suc, _+_, _-_, _≤_, _<_}
 use mathlib.Core.Path.{_≡_, refl, ap, _∙_}
-use mathlib.Core.List.{List, [], _∷_, _++_, append-assoc, append-nil, List·Memᴰ, List·Memᴰ·head, List·Memᴰ·tail}
+use mathlib.Core.List.{List, [], _∷_, _++_, append-assoc, append-nil}
 use mathlib.Core.Logic.{_⊎_, inl, inr}
 use mathlib.Core.Bool.{Bool, true, false}
 use native.Mathlib.Omega.{arith}
@@ -15,6 +15,7 @@ use Rattle.rows.proofs.Buffers.{written-front}
 use Rattle.patterns.specs.Answers.{MatchesAt, isLeaf, span, spansBelow, spans}
 use Rattle.patterns.specs.Searches.{Binds}
 use Rattle.patterns.specs.Pattern.{leaf}
+use Rattle.patterns.proofs.Listing.{mem-at}
 use Rattle.decimal.specs.Printed.{Printed}
 use Rattle.decimal.proofs.Writing.{printed-none, printed-more}
 use Rattle.seek_text.specs.Search.{Ready, lineText, linesText, LinePrinted, PagePrinted}
@@ -64,12 +65,6 @@ part-more ps first i h k =
     let f : first + (i - first) ≡ i = omega arith in
     rw (e, take-suc (drop first ps) (i - first) 0 (rw length-drop (omega arith)), getD-drop first ps (i - first) 0, f)
 
--- a position of a list stands in it
-pub member : (ps : List ℕ) (i : ℕ) → i < length ps → List·Memᴰ (getD ps i 0) ps
-member [] i h = absurd (omega arith)
-member (p ∷ ps) zero h = List·Memᴰ·head refl
-member (p ∷ ps) (suc i) h = List·Memᴰ·tail (member ps i (omega arith))
-
 -- the lines of the matches from number `first` up to i stand at the front of the buffer b, which was b₀, up to place `at`
 pub record Paged (w t q ps : List ℕ) (first : ℕ) (b₀ b : List ℕ) (at i : ℕ) : Type 0 where
   pub on : first ≤ i
@@ -95,7 +90,7 @@ paged-none w t q ps first b h =
 module _ (w t q ps : List ℕ) (first : ℕ) (b₀ b : List ℕ) (at i : ℕ) (s : Paged w t q ps first b₀ b at i) where
   -- a listed position is within the row, and the pattern matches there
   pub match-at : i < length ps → (A : List ℕ) → Ready A w t q ps → (getD ps i 0 < length w) × MatchesAt A w q (getD ps i 0)
-  match-at h A r = r .listed .exactly (getD ps i 0) .0 (member ps i h)
+  match-at h A r = r .listed .exactly (getD ps i 0) .0 (mem-at ps i h)
 
   pub paged-more : (r : ℕ) (b′ : List ℕ) → i < length ps → length b′ ≡ length b → LinePrinted w t q (getD ps i 0) b at r b′ → Paged w t q ps first b₀ b′ r (i + 1)
   paged-more r b′ h k l =

@@ -1,6 +1,5 @@
 // Replacing a subtree, in place.
 ghost use mathlib.Core.Path.{_≡_};
-ghost use Prim.Native.Nat.{min};
 ghost use Rattle.sparrowhem.specs.Edit.{heldCheck, replaceCheck, Replacement};
 use rows::Check;
 use rows::Leaves;
@@ -13,19 +12,13 @@ pub enum Replaced {
     Refused(Refusal),
 }
 
-fn shorter(a: usize, b: usize) -> usize
-    ensures { λ r. ⌜ r ≡ min a b ⌝ }
-{
-    if a < b { a } else { b }
-}
-
 // Refusals 1 to 10, for the row of the first n places of its buffer.
 fn check_held(arities: &[u16], row: &[u16], table: &[u16], n: usize) -> Check
     ensures { λ r. ⌜ r ≡ heldCheck (now (arities .entry)) (now (row .entry)) (now (table .entry)) n ⌝ }
 {
     match rows::check_alphabet(arities) {
         Check::Refused(r) => Check::Refused(r),
-        Check::Fine => match rows::check_sizes(n, shorter(row.len(), table.len())) {
+        Check::Fine => match rows::check_sizes(n, rows::shorter(row.len(), table.len())) {
             Check::Refused(r) => Check::Refused(r),
             Check::Fine => tables::check_right(arities, &row[..n], table),
         },
@@ -48,7 +41,7 @@ fn check_replace(
         Check::Fine => match rows::check_reading(arities, replacement, Leaves::Symbols, 16384) {
             Verdict::Faulty(f) => Check::Refused(Refusal::Replacement(f)),
             Verdict::Whole => {
-                let room = shorter(row.len(), table.len());
+                let room = rows::shorter(row.len(), table.len());
                 edits::check_place(table, room, n, replacement.len(), position)
             }
         },

@@ -12,7 +12,7 @@ ghost use Rattle.tables.specs.Given.{Sized, Fillable, Sees};
 use rows::Check;
 use rows::Refusal;
 
-// Room for the ends of the trees that stand side by side. A short row needs less of it, which is sooner cleared.
+// Room for as many numbers as the longest row has; and for 256, which is sooner cleared.
 pub fn long_room() -> [u16; 16384]
     ensures { λ r. ⌜ 16384 ≡ length r ⌝ }
 {

@@ -8,8 +8,8 @@ use borrow.Author.Needs.{needs}
 use Rattle.copied.proofs.copies.row_of.Statement.{statement}
 use Rattle.copied.proofs.copies.row_of.Tie as tie
 
-row-room-requires : tie.Need-row-room-requires
-row-room-requires c κs = search needs
+long-room-requires : tie.Need-long-room-requires
+long-room-requires c κs = search needs
 
 array-borrow-prefix-copy : tie.Need-array-borrow-prefix-copy
 array-borrow-prefix-copy c = search needs
@@ -23,14 +23,14 @@ decode-requires c κs = simp length-take (omega arith)
 returns : tie.Need-returns
 returns c =
     let s = c .before .before .before .before .before in
-    copy-made (numbers (s .args .bytes .now)) (c .before .before .before .row-room .result) (c .before .decode .last .1 .0) (s .args .n) _
-    (c .before .before .before .row-room .ensures) (s .pre .0) (s .pre .1) (c .before .decode .ensures)
+    copy-made (numbers (s .args .bytes .now)) (c .before .before .before .long-room .result) (c .before .decode .last .1 .0) (s .args .n) _
+    (c .before .before .before .long-room .ensures) (s .pre .0) (s .pre .1) (c .before .decode .ensures)
 
 pub row-of-spec : {M : Type 1} → statement M
 row-of-spec =
     tie.close
     (tie.spec
-    row-room-requires
+    long-room-requires
     array-borrow-prefix-copy
     slice-aggregate-decode
     decode-requires

@@ -20,11 +20,11 @@ module _ (f : tie.After-find) where
 
   abbrev searched : Searched (start .args .arities .now) (start .args .row .now) (start .args .table .now) (start .args .pattern .now) (start .args .out .now)
   searched = record {
-    own = take k (f .before .before .row-room .result);
+    own = take k (f .before .before .long-room .result);
     own′ = f .find .last .1 .1 .1 .1 .0;
     result = f .find .result;
     short = start .pre;
-    room = length-take-le k (f .before .before .row-room .result) (omega (arith, f .before .before .before .shorter .ensures, f .before .before .row-room .ensures))
+    room = length-take-le k (f .before .before .long-room .result) (omega (arith, f .before .before .before .shorter .ensures, f .before .before .long-room .ensures))
         ∙ f .before .before .before .shorter .ensures
         ∙ ap (λ (n : ℕ). min n 16384) (f .before .before .before .before .count .ensures);
     small = λ i. f .before .before .before .before .before .before .slice-known .given i .fits;
@@ -37,8 +37,8 @@ count-requires c κs = search needs
 shorter-requires : tie.Need-shorter-requires
 shorter-requires c κs = search needs
 
-row-room-requires : tie.Need-row-room-requires
-row-room-requires c κs = search needs
+long-room-requires : tie.Need-long-room-requires
+long-room-requires c κs = search needs
 
 array-borrow-prefix-positions : tie.Need-array-borrow-prefix-positions
 array-borrow-prefix-positions c = search needs
@@ -87,7 +87,7 @@ returns-2 : tie.Need-returns-2
 returns-2 c =
     let f = c .before .before .before .before .before .before .before .before .before in
     let n = c .before .before .before .before .before .before in
-    found-matches (searched f) (n .count2 .given .0 .0) (n .count2 .given .1) (drop (k f) (f .before .before .row-room .result)) (c .before .before .encode .last .1 .0) (c .before .before .encode .ensures)
+    found-matches (searched f) (n .count2 .given .0 .0) (n .count2 .given .1) (drop (k f) (f .before .before .long-room .result)) (c .before .before .encode .last .1 .0) (c .before .before .encode .ensures)
 
 pub find-out-spec : {M : Type 1} → statement M
 find-out-spec =
@@ -95,7 +95,7 @@ find-out-spec =
     (tie.spec
     count-requires
     shorter-requires
-    row-room-requires
+    long-room-requires
     array-borrow-prefix-positions
     slice-aggregate-find
     find-requires
