@@ -1,15 +1,14 @@
 -- Rows that are held with their tables, and what a replacement makes of them.
 -- Assumes nothing.
-use Prim.Native.Nat.{ℕ, _+_, _-_, _≤_, _<_, min}
+use Prim.Native.Nat.{ℕ, _+_, _≤_, _<_, min}
 use mathlib.Core.Path.{_≡_, refl, sym, ap, _∙_, subst}
 use mathlib.Core.List.{List, [], _++_, append-nil}
-use mathlib.Core.Bool.{Bool}
 use native.Mathlib.Omega.{arith}
-use lib.ListN.{length, take, drop, length-drop, take-append-drop}
-use lib.Seq.{length-take-le, take-add}
+use lib.ListN.{length, take, drop, take-append-drop}
+use lib.Seq.{length-take-le}
 use lib.IntN.{ℤ, pos, _-ℤ_}
 use borrow.Author.Tests.{le-ltb}
-use Rattle.rows.specs.Tree.{Forest, single, size, count, prefix, ends, Ranked, IsRow}
+use Rattle.rows.specs.Tree.{Forest, single, size, count, prefix, ends, Ranked}
 use Rattle.rows.specs.Parse.{parse, treeOf, table}
 use Rattle.rows.specs.Row.{verdict, allowed, sized}
 use Rattle.rows.specs.Buffers.{written, after}
