@@ -23,19 +23,14 @@ pub fn replace(case: &[u16]) {
 }
 
 fn replace_in(case: &[u16], row: &mut [u16], table: &mut [u16]) {
-    edits(case, row, table);
+    edit(case, 3, row, table);
+    edit(case, 7, row, table);
+    edit(case, 11, row, table);
     list(row);
     list(table);
 }
 
-// Each edit that the case has, of which there are up to three.
-fn edits(case: &[u16], row: &mut [u16], table: &mut [u16]) {
-    for i in 0..3usize {
-        edit(case, 3 + 4 * i, row, table);
-    }
-}
-
-// The edit whose length is list number `first`.
+// The edit whose length is list number `first`, if the case has it.
 fn edit(case: &[u16], first: usize, row: &mut [u16], table: &mut [u16])
     requires { ⌜ first ≤ 99 ⌝ }
 {
