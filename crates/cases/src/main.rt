@@ -1,9 +1,5 @@
 // Runs the cases of the file `stdin`: document 01's worked programmes, the sizes at their limits and the refusals. Each is
 // one of the public calls, and what it answers and leaves in its buffers is printed.
-ghost use mathlib.Core.Path.{_≡_};
-ghost use Prim.Native.Nat.{_≤_};
-ghost use lib.ListN.{length};
-
 mod calling;
 mod replacing;
 
@@ -28,24 +24,10 @@ fn call(word: u8, case: &[u16], buffer: &mut [u16]) {
     }
 }
 
-fn sevens() -> [u16; 16384]
-    ensures { λ r. ⌜ 16384 ≡ length r ⌝ }
-{
-    [7u16; 16384]
-}
-
-// How many places a case's buffer has: its last number.
-fn places(case: &[u16]) -> usize
-    ensures { λ r. ⌜ r ≤ 16384 ⌝ }
-{
-    let n = script::last(case) as usize;
-    if n <= 16384 { n } else { 16384 }
-}
-
 // A case, with a buffer for the call that wants one: all its places hold 7.
 fn run(word: u8, case: &[u16]) {
-    let mut buffer = sevens();
-    let n = places(case);
+    let mut buffer = script::sevens();
+    let n = script::places(case);
     call(word, case, &mut buffer[..n]);
 }
 

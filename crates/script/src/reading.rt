@@ -200,10 +200,25 @@ pub fn list_at<'a>(case: &'a [u16], which: usize) -> &'a [u16] {
     &case[begin..end]
 }
 
+// A buffer for a table or an output. Each place holds 7.
+pub fn sevens() -> [u16; 16384]
+    ensures { λ r. ⌜ 16384 ≡ length r ⌝ }
+{
+    [7u16; 16384]
+}
+
 // The last number of a case; 0 if it has none.
-pub fn last(case: &[u16]) -> u16 {
+fn last(case: &[u16]) -> u16 {
     let n = case.len();
     if 0 < n { case[n - 1] } else { 0 }
+}
+
+// How many places the buffer has: the last number of the case.
+pub fn places(case: &[u16]) -> usize
+    ensures { λ r. ⌜ r ≤ 16384 ⌝ }
+{
+    let n = last(case) as usize;
+    if n <= 16384 { n } else { 16384 }
 }
 
 // The number at a place of a list; 0 past its end.
