@@ -1,63 +1,63 @@
-// Runs document 01's worked programmes and the sizes at their limits on the public calls, and prints each answer and
-// what the call leaves in its buffers.
-mod building;
-mod comparing;
-mod handing;
-mod lists;
-mod printing;
+// Runs the cases of the file `stdin`: document 01's worked programmes, the sizes at their limits and the refusals. Each is
+// one of the public calls, and what it answers and leaves in its buffers is printed.
+mod calling;
 mod replacing;
-mod searching;
-mod trying;
 
-fn builds() {
-    building::worked();
-    building::no_trees();
-    building::alphabets();
-    building::rows();
-    building::symbols();
+use libc::STDIN_FILENO;
+use script::text;
+use script::title;
+
+// The call that a case's word names, by its first letter.
+fn call(word: u8, case: &[u16], buffer: &mut [u16]) {
+    match word {
+        b'b' => calling::build(case, buffer),
+        b's' => calling::subtree(case),
+        b'f' => calling::find(case, buffer),
+        b'v' => calling::variables(case, buffer),
+        b'r' => replacing::replace(case),
+        b'n' => calling::newer(case),
+        b'p' => calling::plain(case),
+        b'e' => calling::each(case),
+        _ => {
+            text(b"no such call\n");
+        }
+    }
 }
 
-fn searches() {
-    searching::worked();
-    searching::traps();
-    searching::nested();
-    searching::refusals();
-    searching::rooms();
-    searching::lengths();
-    searching::variables();
-    searching::short_spans();
+// A case, with a buffer for the call that wants one: all its places hold 7.
+fn run(word: u8, case: &[u16]) {
+    let mut buffer = script::sevens();
+    let n = script::places(case);
+    call(word, case, &mut buffer[..n]);
 }
 
-fn replacements() {
-    replacing::worked();
-    replacing::back();
-    replacing::rooms();
-    replacing::lengths();
-    replacing::refusals();
-    replacing::limits();
+// The word stands behind two spaces.
+fn read(line: &[u8]) {
+    let mut numbers = script::room();
+    let n = script::read(line, &mut numbers);
+    run(script::byte_at(line, 2), &numbers[..n]);
 }
 
-fn newer() {
-    handing::newer();
-    handing::on_record();
-    handing::no_fall_through();
+// A line that begins with a space is a case, one that begins with # is for the reader alone, and any other is a title.
+fn obey(line: &[u8]) {
+    match script::byte_at(line, 0) {
+        b' ' => read(line),
+        b'#' => {}
+        _ => title(line),
+    }
 }
 
-fn plain() {
-    trying::worked();
-    trying::traps();
-    trying::positions();
-    trying::refusals();
-    trying::depths();
-    trying::lengths();
-    comparing::lists();
+fn lines(input: &[u8]) {
+    let mut at = 0;
+    while at < input.len() {
+        let end = script::line_end(input, at);
+        obey(&input[at..end]);
+        at = end + 1;
+    }
 }
 
 fn main() {
-    builds();
-    handing::subtrees();
-    searches();
-    replacements();
-    newer();
-    plain();
+    let mut input = io::large_buffer();
+    let n = io::read_full(STDIN_FILENO, &mut input);
+    lines(&input[..n]);
 }

@@ -1,140 +1,103 @@
-// Replace: worked programmes 7 and 8, buffers with just room, the sizes at their limits, and the refusals.
-use crate::lists::ends;
-use crate::lists::ones;
-use crate::printing::list;
-use crate::printing::number;
-use crate::printing::refusal;
-use crate::printing::text;
-use crate::printing::title;
-use crate::searching::ten;
+// replace ARITIES | ROW | TABLE | EDIT | EDIT | EDIT
+// The edits are made in the same buffers, one after the other, and then the buffers are printed. An edit is
+// LENGTH | REPLACEMENT | POSITION | PATTERN: unless the pattern is empty, it is searched for in the row's buffer.
+ghost use Prim.Native.Nat.{_≤_};
+use crate::calling::found;
+use crate::calling::refusal;
+use script::copy;
+use script::digits;
+use script::list;
+use script::list_at;
+use script::number;
+use script::number_at;
+use script::room;
+use script::text;
 use sparrowhem::Replaced;
 
-// The new length, then the words if the change in length is the one that they say; or the refusal.
-fn answered(r: Replaced, change: i32, words: &[u8]) {
-    match r {
-        Replaced::Refused(r) => refusal(r),
-        Replaced::Done(length, by) => {
-            text(b"length");
-            number(length as u64);
-            if by == change {
-                text(words);
-            } else {
-                text(b", another change\n");
-            }
-        }
-    }
+pub fn replace(case: &[u16]) {
+    let mut row = room();
+    let r = copy(list_at(case, 1), &mut row, 0);
+    let mut table = room();
+    let t = copy(list_at(case, 2), &mut table, 0);
+    replace_in(case, &mut row[..r], &mut table[..t]);
 }
 
-// In T, in buffers with two places more: the answer, the row's buffer and the table.
-fn in_t(row_length: usize, replacement: &[u16], position: usize, change: i32, words: &[u8]) {
-    let a: [u16; 5] = [0, 0, 1, 2, 3];
-    let mut row: [u16; 11] = [4, 3, 0, 0, 2, 1, 3, 0, 0, 7, 7];
-    let mut table: [u16; 11] = [9, 4, 3, 4, 6, 6, 9, 8, 9, 7, 7];
-    answered(
-        sparrowhem::replace(&a, &mut row, &mut table, row_length, replacement, position),
-        change,
-        words,
-    );
-    list(&row);
-    list(&table);
-}
-
-pub fn worked() {
-    title(
-        b"replace in T: 3 0 1 at 4; 1 at 1; 3 0 1 at 1; the last leaf by itself; the root by a leaf",
-    );
-    in_t(9, &[3u16, 0, 1], 4, 1, b", change 1\n");
-    in_t(9, &[1u16], 1, -2, b", change -2\n");
-    in_t(9, &[3u16, 0, 1], 1, 0, b", change 0\n");
-    in_t(9, &[0u16], 8, 0, b", change 0\n");
-    in_t(9, &[1u16], 0, -8, b", change -8\n");
-}
-
-pub fn back() {
-    let a: [u16; 5] = [0, 0, 1, 2, 3];
-    let mut row: [u16; 10] = [4, 3, 0, 0, 2, 1, 3, 0, 0, 7];
-    let mut table: [u16; 10] = [9, 4, 3, 4, 6, 6, 9, 8, 9, 7];
-    title(b"replace in T: 3 0 1 at 4, 3 X0 X0 in the new row, and 2 1 put back");
-    answered(
-        sparrowhem::replace(&a, &mut row, &mut table, 9, &[3u16, 0, 1], 4),
-        1,
-        b", change 1\n",
-    );
-    ten(&a, &row, &table, &[3u16, 65280, 65280]);
-    answered(
-        sparrowhem::replace(&a, &mut row, &mut table, 10, &[2u16, 1], 4),
-        -1,
-        b", change -1\n",
-    );
-    list(&row);
-    list(&table);
-}
-
-// `3 0 1` at 4 of T, in the buffers that are lent.
-fn grown(row: &mut [u16], table: &mut [u16]) {
-    answered(
-        sparrowhem::replace(&[0u16, 0, 1, 2, 3], row, table, 9, &[3u16, 0, 1], 4),
-        1,
-        b", change 1\n",
-    );
+fn replace_in(case: &[u16], row: &mut [u16], table: &mut [u16]) {
+    edit(case, 3, row, table);
+    edit(case, 7, row, table);
+    edit(case, 11, row, table);
     list(row);
     list(table);
 }
 
-pub fn rooms() {
-    title(
-        b"replace: the row's buffer one place short, the table one place short, both with just room",
-    );
-    let mut short: [u16; 9] = [4, 3, 0, 0, 2, 1, 3, 0, 0];
-    let mut table: [u16; 10] = [9, 4, 3, 4, 6, 6, 9, 8, 9, 7];
-    grown(&mut short, &mut table);
-    let mut row: [u16; 10] = [4, 3, 0, 0, 2, 1, 3, 0, 0, 7];
-    let mut ends: [u16; 9] = [9, 4, 3, 4, 6, 6, 9, 8, 9];
-    grown(&mut row, &mut ends);
-    grown(&mut row, &mut table);
+// The edit whose length is list number `first`, if the case has it.
+fn edit(case: &[u16], first: usize, row: &mut [u16], table: &mut [u16])
+    requires { ⌜ first ≤ 99 ⌝ }
+{
+    if 0 < list_at(case, first).len() {
+        put(case, first, row, table);
+        seek(list_at(case, 0), row, table, list_at(case, first + 3));
+    }
 }
 
-pub fn lengths() {
-    title(b"replace: row lengths 0, 8, 10, 12 and 16,385");
-    in_t(0, &[0u16], 0, 0, b"\n");
-    in_t(8, &[0u16], 0, 0, b"\n");
-    in_t(10, &[0u16], 0, 0, b"\n");
-    in_t(12, &[0u16], 0, 0, b"\n");
-    in_t(16385, &[0u16], 0, 0, b"\n");
+// The call itself. The lists from number `first` on are its row length, replacement and position.
+fn put(case: &[u16], first: usize, row: &mut [u16], table: &mut [u16])
+    requires { ⌜ first ≤ 99 ⌝ }
+{
+    let length = number_at(case, first);
+    replaced(
+        sparrowhem::replace(
+            list_at(case, 0),
+            row,
+            table,
+            length,
+            list_at(case, first + 1),
+            number_at(case, first + 2),
+        ),
+        length,
+    );
 }
 
-pub fn refusals() {
-    let some: [u16; 1] = [0];
-    title(
-        b"replace: replacements that are no tree's, before a position that the row lacks; then such positions",
-    );
-    in_t(9, &some[0..0], 9, 0, b"\n");
-    in_t(9, &[3u16, 65535, 0], 9, 0, b"\n");
-    in_t(9, &[3u16, 0], 9, 0, b"\n");
-    in_t(9, &[0u16, 9], 9, 0, b"\n");
-    in_t(9, &some, 9, 0, b"\n");
-    in_t(9, &some, 65536, 0, b"\n");
+// A search of the row's whole buffer, with an output of ten places.
+fn seek(arities: &[u16], row: &[u16], table: &[u16], pattern: &[u16]) {
+    if 0 < pattern.len() {
+        let mut out = [7u16; 10];
+        found(sparrowhem::find(arities, row, table, pattern, &mut out));
+        list(&out);
+    }
 }
 
-// A chain of 16,383 symbols whose last gives way to `1 0`, and the new row's last to the same; then the root to a leaf.
-pub fn limits() {
-    title(b"replace: from 16,383 symbols to 16,384, and no further; from there to 1");
-    let mut row = ones();
-    row[16382] = 0;
-    let mut table = ends();
-    answered(
-        sparrowhem::replace(&[0u16, 1], &mut row, &mut table, 16383, &[1u16, 0], 16382),
-        1,
-        b", change 1\n",
-    );
-    answered(
-        sparrowhem::replace(&[0u16, 1], &mut row, &mut table, 16384, &[1u16, 0], 16383),
-        1,
-        b", change 1\n",
-    );
-    answered(
-        sparrowhem::replace(&[0u16, 1], &mut row, &mut table, 16384, &[0u16], 0),
-        -16383,
-        b", change -16383\n",
-    );
+fn replaced(answer: Replaced, old: usize) {
+    match answer {
+        Replaced::Refused(r) => refusal(r),
+        Replaced::Done(new, by) => {
+            text(b"length");
+            number(new);
+            changed(by, new, old);
+        }
+    }
+}
+
+// The change in length: by how many numbers the row gains or loses.
+fn changed(by: i32, new: usize, old: usize) {
+    if new < old {
+        change(b", change -", by, 0, old - new);
+    } else {
+        change(b", change ", by, new - old, 0);
+    }
+}
+
+// It is printed if the call answers just this one. No row gains or loses more than 16,384 numbers.
+fn change(words: &[u8], by: i32, gain: usize, loss: usize) {
+    if 16384 < gain {
+        return;
+    }
+    if 16384 < loss {
+        return;
+    }
+    if by == edits::change(gain, loss) {
+        text(words);
+        digits(gain + loss);
+    }
+    text(b"\n");
 }

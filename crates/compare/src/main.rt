@@ -1,0 +1,235 @@
+// The plain matcher against find, with the table that build leaves: every list of one to four numbers below 6, and every row
+// of five to seven; every position. What find refuses, the plain matcher has to refuse alike. The file `stdin` has the
+// alphabet, of five symbols, and the patterns, some of which are faulty: lists with a bar between each two.
+ghost use mathlib.Core.Path.{_≡_};
+ghost use Prim.Native.Nat.{_≤_};
+ghost use lib.ListN.{length};
+use libc::STDIN_FILENO;
+use script::count;
+use script::list_at;
+use script::number;
+use script::text;
+use script::title;
+use sparrowhem::Check;
+use sparrowhem::Fits;
+use sparrowhem::Found;
+use sparrowhem::Refusal;
+
+// How many positions were tried and how many of them match, how many calls were refused alike, and how often the two differ.
+struct Tally {
+    positions: usize,
+    matches: usize,
+    refused: usize,
+    apart: usize,
+}
+
+fn more(n: usize, yes: bool) -> usize {
+    if yes {
+        return std::num::wrapping_add_usize(n, 1);
+    }
+    n
+}
+
+impl Tally {
+    // A position where the plain matcher says the same as find, or not.
+    fn position(mut self, found: bool, same: bool) -> Self {
+        self.positions = more(self.positions, true);
+        self.matches = more(self.matches, found);
+        self.apart = more(self.apart, !same);
+        self
+    }
+
+    // A call that find refuses.
+    fn refusal(mut self, same: bool) -> Self {
+        self.refused = more(self.refused, same);
+        self.apart = more(self.apart, !same);
+        self
+    }
+}
+
+// Is p among the first n numbers?
+fn listed(numbers: &[u16], n: usize, p: usize) -> bool {
+    let mut i = 0;
+    while i < numbers.len() {
+        if n <= i {
+            return false;
+        }
+        if numbers[i] as usize == p {
+            return true;
+        }
+        i += 1;
+    }
+    false
+}
+
+// Does the plain matcher say so?
+fn agrees(answer: Fits, found: bool) -> bool {
+    match answer {
+        Fits::Yes => found,
+        Fits::No => !found,
+        Fits::Refused(_) => false,
+    }
+}
+
+// Every position of a row, of which the first n numbers of `out` are the matches.
+fn answered(
+    arities: &[u16],
+    row: &[u16],
+    pattern: &[u16],
+    out: &[u16],
+    n: usize,
+    tally: Tally,
+) -> Tally {
+    let mut sum = tally;
+    for p in 0..row.len() {
+        let found = listed(out, n, p);
+        let same = agrees(sparrowhem::plain_match(arities, row, pattern, p), found);
+        sum = sum.position(found, same);
+    }
+    sum
+}
+
+fn same(a: Refusal, b: Refusal) -> bool {
+    if sparrowhem::number_of(a) == sparrowhem::number_of(b) {
+        return sparrowhem::place_of(a) == sparrowhem::place_of(b);
+    }
+    false
+}
+
+// Does the plain matcher refuse alike?
+fn alike(answer: Fits, refusal: Refusal) -> bool {
+    match answer {
+        Fits::Yes => false,
+        Fits::No => false,
+        Fits::Refused(r) => same(r, refusal),
+    }
+}
+
+// What find answers, against the plain matcher.
+fn judged(
+    answer: Found,
+    arities: &[u16],
+    list: &[u16],
+    pattern: &[u16],
+    out: &[u16],
+    tally: Tally,
+) -> Tally {
+    match answer {
+        Found::Refused(r) => tally.refusal(alike(
+            sparrowhem::plain_match(arities, list, pattern, 0),
+            r,
+        )),
+        Found::Matches(n) => answered(arities, list, pattern, out, n, tally),
+    }
+}
+
+// One list of up to seven numbers with one pattern.
+fn compared(arities: &[u16], list: &[u16], pattern: &[u16], tally: Tally) -> Tally {
+    let mut table = [0u16; 7];
+    sparrowhem::build(arities, list, &mut table);
+    let mut out = [0u16; 7];
+    let answer = sparrowhem::find(arities, list, &table, pattern, &mut out);
+    judged(answer, arities, list, pattern, &out, tally)
+}
+
+// One list with each pattern. An empty pattern is none.
+fn patterns(case: &[u16], list: &[u16], tally: Tally) -> Tally {
+    let mut sum = tally;
+    for i in 1..20usize {
+        let pattern = list_at(case, i);
+        if 0 < pattern.len() {
+            sum = compared(list_at(case, 0), list, pattern, sum);
+        }
+    }
+    sum
+}
+
+fn is_fine(answer: Check) -> bool {
+    match answer {
+        Check::Fine => true,
+        Check::Refused(_) => false,
+    }
+}
+
+// A short list is tried, and a longer one if it is a row.
+fn worth(arities: &[u16], list: &[u16]) -> bool {
+    if list.len() < 5 {
+        return true;
+    }
+    let mut table = [0u16; 7];
+    is_fine(sparrowhem::build(arities, list, &mut table))
+}
+
+fn tried(case: &[u16], list: &[u16], tally: Tally) -> Tally {
+    if worth(list_at(case, 0), list) {
+        return patterns(case, list, tally);
+    }
+    tally
+}
+
+// List number `which`: its digits to base 6, the last first.
+fn spelt(which: usize) -> [u16; 7]
+    ensures { λ r. ⌜ 7 ≡ length r ⌝ }
+{
+    let mut list = [0u16; 7];
+    let mut left = which;
+    for i in 0..7usize {
+        list[i] = (left % 6) as u16;
+        left = left / 6;
+    }
+    list
+}
+
+// The first `many` lists, each cut to n numbers.
+fn lists_of(case: &[u16], n: usize, many: usize, tally: Tally) -> Tally
+    requires { ⌜ n ≤ 7 ⌝ }
+{
+    let mut sum = tally;
+    for which in 0..many {
+        let list = spelt(which);
+        sum = tried(case, &list[0..n], sum);
+    }
+    sum
+}
+
+// The lists of one to seven numbers.
+fn all_lists(case: &[u16]) -> Tally {
+    let mut sum = Tally {
+        positions: 0,
+        matches: 0,
+        refused: 0,
+        apart: 0,
+    };
+    let many: [usize; 8] = [1, 6, 36, 216, 1296, 7776, 46656, 279936];
+    for n in 1..8usize {
+        sum = lists_of(case, n, many[n], sum);
+    }
+    sum
+}
+
+// The first list of the case is the alphabet, and the others are patterns.
+fn compare(case: &[u16]) {
+    let all = all_lists(case);
+    text(b"positions");
+    number(all.positions);
+    text(b" matches");
+    number(all.matches);
+    text(b" refused");
+    number(all.refused);
+    count(b" apart", all.apart);
+}
+
+fn read(line: &[u8]) {
+    let mut numbers = script::room();
+    let n = script::read(line, &mut numbers);
+    compare(&numbers[..n]);
+}
+
+fn main() {
+    title(
+        b"plain against find: lists of one to four numbers, rows of five to seven, 14 patterns, every position",
+    );
+    let mut line = io::buffer();
+    let n = io::read_full(STDIN_FILENO, &mut line);
+    read(&line[..n]);
+}
