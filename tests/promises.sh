@@ -1,5 +1,6 @@
 #!/usr/bin/env bash
-# Each statement and proof that docs/PROMISES.md names stands in the file that it names.
+# Each statement and proof that docs/PROMISES.md names stands in the file that it names; each wrong version that it names, as
+# `CRATE/NAME.edit`, is a file of that crate's must-fail folder; and each of the public calls' own is named there.
 set -u
 cd "$(dirname "$0")/.." || exit 2
 passed=0
@@ -12,6 +13,25 @@ while read -r name file; do
     failed=$((failed + 1))
   fi
 done < <(grep -oE '`[^` ]+` in `[^`]+`' docs/PROMISES.md | sed -E 's/`([^`]+)` in `([^`]+)`/\1 \2/')
+named=$(grep -oE '`[a-z_]+/[a-z0-9_]+\.edit`' docs/PROMISES.md | tr -d '`' | sort -u)
+for edit in $named; do
+  if [ -f "crates/${edit%/*}/must-fail/${edit#*/}" ]; then
+    passed=$((passed + 1))
+  else
+    echo "docs/PROMISES.md names $edit, and there is no such edit"
+    failed=$((failed + 1))
+  fi
+done
+for file in crates/sparrowhem/must-fail/*.edit crates/host/must-fail/*.edit; do
+  edit=${file#crates/}
+  edit=${edit/must-fail\//}
+  if grep -qxF "$edit" <<<"$named"; then
+    passed=$((passed + 1))
+  else
+    echo "docs/PROMISES.md does not name $edit"
+    failed=$((failed + 1))
+  fi
+done
 [ "$passed" -gt 0 ] || failed=$((failed + 1))
 echo "$passed passed, $failed failed"
 [ "$failed" -eq 0 ]

@@ -21,8 +21,8 @@ use Rattle.rows.proofs.Entry.{length-table}
 use Rattle.rows.proofs.Promises.{table-of-row}
 use Rattle.tables.proofs.Given.{row-fine}
 use Rattle.sparrowhem.specs.Build.{buildCheck}
-use Rattle.promises.specs.Calls.{Build-settled, Build-refused, Build-accepts, Build-writes, Subtree-part, Subtree-empty, Find-settled, Find-refused, Find-lists, Find-short, Find-computed, Variables-settled, Variables-matched, Variables-unmatched, Variables-refused, Variables-computed, Newest-settled, Newer-part, Newer-settled, Newer-lies, Newer-empty, Newer-refused, Newer-numbers}
-use Rattle.sparrowhem.specs.Parts.{subtreePart, subtreeAnswer, ofRecord, newerCheck, NewestSays, newestPart}
+use Rattle.promises.specs.Calls.{Build-settled, Build-refused, Build-accepts, Build-writes, Subtree-part, Subtree-empty, Subtree-place-settled, Find-settled, Find-refused, Find-lists, Find-short, Find-computed, Variables-settled, Variables-matched, Variables-unmatched, Variables-refused, Variables-computed, Newest-settled, Newer-part, Newer-settled, Newer-place-settled, Newer-lies, Newer-empty, Newer-refused, Newer-numbers}
+use Rattle.sparrowhem.specs.Parts.{subtreePart, subtreeAnswer, LiesAt, ofRecord, newerCheck, NewestSays, newestPart, NewestLies}
 use Rattle.sparrowhem.specs.declared.parts.Newest.{Newest}
 use Rattle.sparrowhem.specs.declared.parts.Newest.the-variants.{Corrected, OnRecord, Nowhere, Refused as NewestRefused}
 use Rattle.sparrowhem.proofs.Preferring.{match-within, match-part, one-answer, kept-renumbered}
@@ -83,6 +83,13 @@ subtree-part A w t p b e h =
     let s = answer-span A w t p b e h in
     let within = span-within A w t p b e s in
     (s .begin, within .0, within .1, span-part A w t p b e s)
+
+lies-settled : (row : ℕ × ℕ) (b : ℕ) (x y : ℕ × ℕ) → LiesAt row b x → LiesAt row b y → x ≡ y
+lies-settled row b x y h k = λ i. ((h .0 ∙ sym (k .0)) i, (h .1 ∙ sym (k .1)) i)
+
+pub subtree-place-settled : Subtree-place-settled
+subtree-place-settled (Span b e) row x y h k = lies-settled row b x y h k
+subtree-place-settled (Unplaced r) row x y h k = lies-settled row 0 x y h k
 
 pub subtree-empty : Subtree-empty
 subtree-empty A w t p = (λ none. from (subtreeAnswer A w t p) refl none, λ x. answer-none A w t p (x .0) (x .1))
@@ -161,6 +168,16 @@ newer-part A w t v u q x r h k = h .part ∙ ap (newestPart A w v) (one-answer A
 
 pub newer-settled : Newer-settled
 newer-settled A w t v u q x y h k = newer-part A w t v u q x (k .answer) h (k .says) ∙ sym (k .part)
+
+pub newer-place-settled : Newer-place-settled
+newer-place-settled A w t v u q corrected older x y h k =
+    go (k .answer) (subst (λ (r : Newest). NewestLies r corrected older x) (one-answer A w t v u q (h .answer) (k .answer) (h .says) (k .says)) (h .lies)) (k .lies)
+  where
+    go : (r : Newest) → NewestLies r corrected older x → NewestLies r corrected older y → x ≡ y
+    go (Corrected p e) l m = lies-settled corrected p x y l m
+    go (OnRecord p e) l m = lies-settled older p x y l m
+    go Nowhere l m = lies-settled corrected 0 x y l m
+    go (NewestRefused r) l m = lies-settled corrected 0 x y l m
 
 pub newer-lies : Newer-lies
 newer-lies A w t v u q x p e h = (

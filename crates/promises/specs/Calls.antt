@@ -17,12 +17,13 @@ use Rattle.rows.specs.declared.Check.the-variants.{Fine, Refused}
 use Rattle.sparrowhem.specs.Build.{Built}
 use Rattle.patterns.specs.Answers.{MatchesAt, Listed, spans}
 use Rattle.patterns.specs.Walk.{comesThrough, listOf}
-use Rattle.sparrowhem.specs.Parts.{subtreePart, subtreeAnswer, onRecord, NewestSays, newestPart, NewerPart}
+use Rattle.sparrowhem.specs.Parts.{subtreePart, subtreeAnswer, SubtreeLies, onRecord, NewestSays, newestPart, NewerPart, NewerLies}
 use Rattle.sparrowhem.specs.Search.{searchCheck, findCheck, found, Finds, bindCheck, bound, Binds}
 use Rattle.sparrowhem.specs.declared.search.Found.{Found}
 use Rattle.sparrowhem.specs.declared.search.Found.the-variants.{Matches, Refused as FindRefused}
 use Rattle.sparrowhem.specs.declared.search.Bound.{Bound}
 use Rattle.sparrowhem.specs.declared.search.Bound.the-variants.{Matched, Unmatched, Refused as BindRefused}
+use Rattle.sparrowhem.specs.declared.parts.Placed.{Placed}
 use Rattle.sparrowhem.specs.declared.parts.Placed.the-variants.{Span, Refused as Unplaced}
 use Rattle.sparrowhem.specs.declared.parts.Newest.{Newest}
 use Rattle.sparrowhem.specs.declared.parts.Newest.the-variants.{Corrected, OnRecord, Nowhere, Refused as NewestRefused}
@@ -55,6 +56,10 @@ Subtree-part = (A w t : List ℕ) (p b e : ℕ) → subtreeAnswer A w t p ≡ Sp
 abbrev pub Subtree-empty : Type 0
 Subtree-empty = (A w t : List ℕ) (p : ℕ) → (subtreePart A w t p ≡ []) ↔ ((r : Refusal) × (subtreeAnswer A w t p ≡ Unplaced r))
 
+-- Where it lies is settled too: two places are the same.
+abbrev pub Subtree-place-settled : Type 0
+Subtree-place-settled = (r : Placed) (row x y : ℕ × ℕ) → SubtreeLies r row x → SubtreeLies r row y → x ≡ y
+
 -- The contract of the companion of `newer` settles its answer: two answers are equal.
 abbrev pub Newest-settled : Type 0
 Newest-settled = (A w t v u q : List ℕ) (r s : Newest) → NewestSays A w t v u q r → NewestSays A w t v u q s → r ≡ s
@@ -66,6 +71,11 @@ Newer-part = (A w t v u q x : List ℕ) (r : Newest) → NewerPart A w t v u q x
 -- So its contract settles the part: two parts are equal.
 abbrev pub Newer-settled : Type 0
 Newer-settled = (A w t v u q x y : List ℕ) → NewerPart A w t v u q x → NewerPart A w t v u q y → x ≡ y
+
+-- Where it lies is settled too: two places are the same.
+abbrev pub Newer-place-settled : Type 0
+Newer-place-settled = (A w t v u q : List ℕ) (corrected older x y : ℕ × ℕ) → NewerLies A w t v u q corrected older x
+    → NewerLies A w t v u q corrected older y → x ≡ y
 
 -- It lies in the row that the companion answers, between the begin and the end.
 abbrev pub Newer-lies : Type 0

@@ -1,5 +1,5 @@
 -- What is handed back as a part of a lent row.
-use Prim.Native.Nat.{ℕ, _<_}
+use Prim.Native.Nat.{ℕ, _+_, _*_, _<_}
 use mathlib.Core.Path.{_≡_}
 use mathlib.Core.List.{List, []}
 use lib.ListN.{length, getD}
@@ -32,6 +32,16 @@ placed (Refused r) b e = Unplaced r
 
 unfoldable pub subtreeAnswer : List ℕ → List ℕ → List ℕ → ℕ → Placed
 subtreeAnswer A w t p = placed (subtreeCheck A w t p) p (getD (table A w) p 0)
+
+-- A slice points to a byte of a block of memory, and each of its numbers takes two bytes. The part lies in the row itself, from
+-- position b on.
+abbrev pub LiesAt : ℕ × ℕ → ℕ → ℕ × ℕ → Type 0
+LiesAt row b part = (part .0 ≡ row .0) × (part .1 ≡ b * 2 + row .1)
+
+-- where the part of a subtree lies: from its begin on; an empty one at the row's front
+abbrev pub SubtreeLies : Placed → ℕ × ℕ → ℕ × ℕ → Type 0
+SubtreeLies (Span b e) row part = LiesAt row b part
+SubtreeLies (Unplaced r) row part = LiesAt row 0 part
 
 -- NEWER OR OLDER. A refusal of a row with its table, 4 to 10, as that of the row on record, 44 to 50; any other stays.
 abbrev pub onRecord : Refusal → Refusal
@@ -89,3 +99,16 @@ pub record NewerPart (A w t v u q x : List ℕ) : Type 0 where
   pub answer : Newest
   pub says : NewestSays A w t v u q answer
   pub part : x ≡ newestPart A w v answer
+
+-- where the part of an answer lies, by where the two rows do: in the row that the answer names, from the position on; an empty
+-- one at the front of the corrected row
+abbrev pub NewestLies : Newest → ℕ × ℕ → ℕ × ℕ → ℕ × ℕ → Type 0
+NewestLies (Corrected p e) corrected older part = LiesAt corrected p part
+NewestLies (OnRecordAt p e) corrected older part = LiesAt older p part
+NewestLies Nowhere corrected older part = LiesAt corrected 0 part
+NewestLies (NewestRefused r) corrected older part = LiesAt corrected 0 part
+
+pub record NewerLies (A w t v u q : List ℕ) (corrected older part : ℕ × ℕ) : Type 0 where
+  pub answer : Newest
+  pub says : NewestSays A w t v u q answer
+  pub lies : NewestLies answer corrected older part

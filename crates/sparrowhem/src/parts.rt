@@ -1,6 +1,7 @@
 // Parts of lent rows, handed back and not copied.
 ghost use mathlib.Core.Path.{_≡_};
-ghost use Rattle.sparrowhem.specs.Parts.{subtreeCheck, subtreePart, subtreeAnswer, onRecord, newerCheck, NewestSays, NewerPart};
+ghost use denote.Ref.{ptr};
+ghost use Rattle.sparrowhem.specs.Parts.{subtreeCheck, subtreePart, subtreeAnswer, SubtreeLies, onRecord, newerCheck, NewestSays, NewerPart, NewerLies};
 use rows::Check;
 use rows::Refusal;
 
@@ -38,6 +39,7 @@ pub fn subtree_answer(arities: &[u16], row: &[u16], table: &[u16], position: usi
 // The subtree at the position, as a part of the row; empty exactly for a refusal.
 pub fn subtree<'a>(arities: &[u16], row: &'a [u16], table: &[u16], position: usize) -> &'a [u16]
     ensures { λ r. ⌜ now r ≡ subtreePart (now (arities .entry)) (now (row .entry)) (now (table .entry)) position ⌝ }
+    ensures { λ r. ⌜ SubtreeLies (subtreeAnswer (now (arities .entry)) (now (row .entry)) (now (table .entry)) position) (ptr (row .entry)) (ptr r) ⌝ }
 {
     match subtree_answer(arities, row, table, position) {
         Placed::Refused(_) => &row[0..0],
@@ -132,6 +134,7 @@ pub fn newer<'a>(
     pattern: &[u16],
 ) -> &'a [u16]
     ensures { λ r. ⌜ NewerPart (now (arities .entry)) (now (corrected .entry)) (now («corrected_table» .entry)) (now («record» .entry)) (now («record_table» .entry)) (now (pattern .entry)) (now r) ⌝ }
+    ensures { λ r. ⌜ NewerLies (now (arities .entry)) (now (corrected .entry)) (now («corrected_table» .entry)) (now («record» .entry)) (now («record_table» .entry)) (now (pattern .entry)) (ptr (corrected .entry)) (ptr («record» .entry)) (ptr r) ⌝ }
 {
     match newer_answer(
         arities,

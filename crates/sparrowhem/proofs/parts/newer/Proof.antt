@@ -83,20 +83,27 @@ part-result-end-4 c = search needs
 returns : tie.Need-returns
 returns c =
     let b = c .before .before in
-    record { answer = Corrected (b .begin .given .0 .0) (b .begin .given .0 .1 .0); says = told (b .before .before) _ (b .begin .given .1); part = match-part _ _ _ _ _ (in-corrected b) }
+    let newest = Corrected (b .begin .given .0 .0) (b .begin .given .0 .1 .0) in
+    let said = told (b .before .before) _ (b .begin .given .1) in
+    (record { answer = newest; says = said; part = match-part _ _ _ _ _ (in-corrected b) }, record { answer = newest; says = said; lies = (refl, refl) })
 
 returns-2 : tie.Need-returns-2
 returns-2 c =
     let b = c .before .before in
-    record { answer = OnRecord (b .begin2 .given .0 .0) (b .begin2 .given .0 .1 .0); says = told (b .before .before) _ (b .begin2 .given .1); part = match-part _ _ _ _ _ (on-record b) }
+    let newest = OnRecord (b .begin2 .given .0 .0) (b .begin2 .given .0 .1 .0) in
+    let said = told (b .before .before) _ (b .begin2 .given .1) in
+    (record { answer = newest; says = said; part = match-part _ _ _ _ _ (on-record b) }, record { answer = newest; says = said; lies = (refl, refl) })
 
 returns-3 : tie.Need-returns-3
 returns-3 c =
-    record { answer = Nowhere; says = told (c .before .before .before) _ (c .before .enum-told .given .1); part = refl }
+    let said = told (c .before .before .before) _ (c .before .enum-told .given .1) in
+    (record { answer = Nowhere; says = said; part = refl }, record { answer = Nowhere; says = said; lies = (refl, refl) })
 
 returns-4 : tie.Need-returns-4
 returns-4 c =
-    record { answer = Refused (c .before .enum-told2 .given .0 .0); says = told (c .before .before .before) _ (c .before .enum-told2 .given .1); part = refl }
+    let why = Refused (c .before .enum-told2 .given .0 .0) in
+    let said = told (c .before .before .before) _ (c .before .enum-told2 .given .1) in
+    (record { answer = why; says = said; part = refl }, record { answer = why; says = said; lies = (refl, refl) })
 
 pub newer-spec : {M : Type 1} → statement M
 newer-spec =

@@ -1,10 +1,12 @@
 -- `sparrowhem::subtree` meets its contract. The span that the companion answers is that of the subtree.
 -- Assumes nothing.
 -- the companion has answered with a span
-use Prim.Native.Nat.{_<_, _≤_}
-use mathlib.Core.Path.{sym, _∙_}
+use Prim.Native.Nat.{_+_, _*_, _<_, _≤_}
+use mathlib.Core.Path.{refl, sym, subst, _∙_}
 use native.Mathlib.Omega.{arith}
 use lib.ListN.{length}
+use Rattle.sparrowhem.specs.Parts.{SubtreeLies}
+use Rattle.sparrowhem.specs.declared.parts.Placed.{Placed}
 use Rattle.sparrowhem.proofs.Handing.{Spans, answer-span, answer-none, span-within, span-part}
 use borrow.Author.Needs.{needs}
 use Rattle.sparrowhem.proofs.parts.subtree.Statement.{statement}
@@ -52,10 +54,14 @@ part-result-end-2 c = omega (arith, within c)
 returns : tie.Need-returns
 returns c =
     let a = c .before .before .before .before .before .before .before .args in
-    sym (answer-none (a .arities .now) (a .row .now) (a .table .now) (a .position) _ (sym (c .before .before .before .subtree-answer .ensures) ∙ c .before .enum-told .given .1))
+    let none = sym (c .before .before .before .subtree-answer .ensures) ∙ c .before .enum-told .given .1 in
+    (sym (answer-none (a .arities .now) (a .row .now) (a .table .now) (a .position) _ none), subst (λ (x : Placed). SubtreeLies x (a .row .ptr) (a .row .ptr .0, 0 + a .row .ptr .1)) (sym none) (refl, refl))
 
 returns-2 : tie.Need-returns-2
-returns-2 c = let a = c .before .before .before .before .before .before .before .before .args in sym (span-part (a .arities .now) (a .row .now) (a .table .now) (a .position) _ _ (spans (c .before)))
+returns-2 c =
+    let a = c .before .before .before .before .before .before .before .before .args in
+    let span = sym (c .before .before .before .before .subtree-answer .ensures) ∙ c .before .before .begin .given .1 in
+    (sym (span-part (a .arities .now) (a .row .now) (a .table .now) (a .position) _ _ (spans (c .before))), subst (λ (x : Placed). SubtreeLies x (a .row .ptr) (a .row .ptr .0, c .before .before .begin .given .0 .0 * 2 + a .row .ptr .1)) (sym span) (refl, refl))
 
 pub subtree-spec : {M : Type 1} → statement M
 subtree-spec =
