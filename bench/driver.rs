@@ -229,13 +229,15 @@ fn time(rounds: usize, mut call: impl FnMut(By) -> Answer) -> [f64; 3] {
     times.map(median)
 }
 
-/// What was measured: the call, what it was called on, the row's shape and length, nanoseconds of library, Rust and C.
+/// What was measured: the call, what it was called on, the row's shape and length, nanoseconds of library, Rust and C (the
+/// medians of what each turn of the whole gave).
 pub struct Measured {
     pub call: &'static str,
     pub on: String,
     pub shape: &'static str,
     pub n: usize,
     pub ns: [f64; 3],
+    turns: Vec<[f64; 3]>,
 }
 
 struct Bench {
@@ -247,7 +249,14 @@ impl Bench {
     fn add(&mut self, call: &'static str, on: &str, shape: &'static str, n: usize, f: impl FnMut(By) -> Answer) {
         let ns = time(self.rounds, f);
         eprintln!("{call}, {on}, {shape}, {n}: {:.0} ns, {:.2} of Rust, {:.2} of C", ns[0], ns[0] / ns[1], ns[0] / ns[2]);
-        self.measured.push(Measured { call, on: on.to_string(), shape, n, ns });
+        let known = self.measured.iter().position(|m| m.call == call && m.on == on && m.shape == shape && m.n == n);
+        let at = known.unwrap_or_else(|| {
+            self.measured.push(Measured { call, on: on.to_string(), shape, n, ns, turns: Vec::new() });
+            self.measured.len() - 1
+        });
+        let m = &mut self.measured[at];
+        m.turns.push(ns);
+        m.ns = [0, 1, 2].map(|by| median(m.turns.iter().map(|t| t[by]).collect()));
     }
 }
 
@@ -349,13 +358,16 @@ fn main() {
     let folder = std::path::Path::new(arguments.first().expect("usage: driver FOLDER [quick]"));
     let quick = arguments.iter().any(|a| a == "quick");
     let sizes: &[usize] = if quick { &[4096, 16384] } else { &[16, 256, 4096, 16384] };
-    let mut bench = Bench { rounds: if quick { 15 } else { 101 }, measured: Vec::new() };
-    for &n in sizes {
-        for name in SHAPES {
-            row_of(&mut bench, name, n);
-            // room for the longer row within 16,384
-            replacements(&mut bench, name, n.min(16384 - 8));
-            refusals(&mut bench, name, n);
+    let mut bench = Bench { rounds: if quick { 15 } else { 51 }, measured: Vec::new() };
+    // All of it several times over, so that a moment when the machine is slow does not fall on one call alone.
+    for _ in 0..if quick { 1 } else { 5 } {
+        for &n in sizes {
+            for name in SHAPES {
+                row_of(&mut bench, name, n);
+                // room for the longer row within 16,384
+                replacements(&mut bench, name, n.min(16384 - 8));
+                refusals(&mut bench, name, n);
+            }
         }
     }
     let bars = bars::table(&bench.measured);
