@@ -1,6 +1,7 @@
-//! Times the library's calls beside the same calls in plain Rust and plain C, in one run.
-//! Usage: driver FOLDER [quick]. Writes FOLDER/measured.md (tables of ratios) and FOLDER/benchmarks.svg (time against
-//! length); progress goes to standard error.
+//! Times the library's calls beside the same calls in plain Rust and plain C.
+//! `driver time FILE [quick]` times them all once and writes a line for each to FILE; progress goes to standard error.
+//! `driver tell FOLDER FILE..` takes the median over such files, and writes FOLDER/measured.md (bars and tables of ratios) and
+//! FOLDER/benchmarks.svg (time against length).
 
 mod bars;
 mod baseline;
@@ -229,15 +230,42 @@ fn time(rounds: usize, mut call: impl FnMut(By) -> Answer) -> [f64; 3] {
     times.map(median)
 }
 
-/// What was measured: the call, what it was called on, the row's shape and length, nanoseconds of library, Rust and C (the
-/// medians of what each turn of the whole gave).
+/// What was measured: the call, what it was called on, the row's shape and length, nanoseconds of library, Rust and C.
 pub struct Measured {
-    pub call: &'static str,
+    pub call: String,
     pub on: String,
-    pub shape: &'static str,
+    pub shape: String,
     pub n: usize,
     pub ns: [f64; 3],
-    turns: Vec<[f64; 3]>,
+}
+
+impl Measured {
+    fn line(&self) -> String {
+        let [a, b, c] = self.ns;
+        format!("{}\t{}\t{}\t{}\t{a}\t{b}\t{c}\n", self.call, self.on, self.shape, self.n)
+    }
+
+    fn of_line(line: &str) -> Measured {
+        let words: Vec<&str> = line.trim_end().split('\t').collect();
+        let time = |k: usize| words[k].parse().expect("a time");
+        Measured {
+            call: words[0].to_string(),
+            on: words[1].to_string(),
+            shape: words[2].to_string(),
+            n: words[3].parse().expect("a length"),
+            ns: [time(4), time(5), time(6)],
+        }
+    }
+}
+
+/// The medians of several measurements of the same calls, in the same order.
+fn medians(turns: &[Vec<Measured>]) -> Vec<Measured> {
+    let one = |k: usize| {
+        let same: Vec<&Measured> = turns.iter().map(|t| &t[k]).collect();
+        let ns = [0, 1, 2].map(|by| median(same.iter().map(|m| m.ns[by]).collect()));
+        Measured { ns, ..Measured::of_line(&same[0].line()) }
+    };
+    (0..turns[0].len()).map(one).collect()
 }
 
 struct Bench {
@@ -246,17 +274,10 @@ struct Bench {
 }
 
 impl Bench {
-    fn add(&mut self, call: &'static str, on: &str, shape: &'static str, n: usize, f: impl FnMut(By) -> Answer) {
+    fn add(&mut self, call: &str, on: &str, shape: &str, n: usize, f: impl FnMut(By) -> Answer) {
         let ns = time(self.rounds, f);
         eprintln!("{call}, {on}, {shape}, {n}: {:.0} ns, {:.2} of Rust, {:.2} of C", ns[0], ns[0] / ns[1], ns[0] / ns[2]);
-        let known = self.measured.iter().position(|m| m.call == call && m.on == on && m.shape == shape && m.n == n);
-        let at = known.unwrap_or_else(|| {
-            self.measured.push(Measured { call, on: on.to_string(), shape, n, ns, turns: Vec::new() });
-            self.measured.len() - 1
-        });
-        let m = &mut self.measured[at];
-        m.turns.push(ns);
-        m.ns = [0, 1, 2].map(|by| median(m.turns.iter().map(|t| t[by]).collect()));
+        self.measured.push(Measured { call: call.to_string(), on: on.to_string(), shape: shape.to_string(), n, ns });
     }
 }
 
@@ -291,7 +312,7 @@ fn patterns(name: &str, row: &[u16], table: &[u16]) -> Vec<(&'static str, Vec<u1
 }
 
 /// The calls on one row.
-fn row_of(bench: &mut Bench, name: &'static str, n: usize) {
+fn row_of(bench: &mut Bench, name: &str, n: usize) {
     let arities = alphabet();
     let row = shape(name, n);
     let right = table_of(&row);
@@ -316,7 +337,7 @@ fn row_of(bench: &mut Bench, name: &'static str, n: usize) {
 }
 
 /// A replacement and putting back, together: each pair leaves the row as it was.
-fn replacements(bench: &mut Bench, name: &'static str, n: usize) {
+fn replacements(bench: &mut Bench, name: &str, n: usize) {
     let arities = alphabet();
     let row = shape(name, n);
     let right = table_of(&row);
@@ -338,7 +359,7 @@ fn replacements(bench: &mut Bench, name: &'static str, n: usize) {
 }
 
 /// Refused input: a bad last number, and a stale first and last entry.
-fn refusals(bench: &mut Bench, name: &'static str, n: usize) {
+fn refusals(bench: &mut Bench, name: &str, n: usize) {
     let arities = alphabet();
     let row = shape(name, n);
     let right = table_of(&row);
@@ -353,25 +374,37 @@ fn refusals(bench: &mut Bench, name: &'static str, n: usize) {
     }
 }
 
-fn main() {
-    let arguments: Vec<String> = std::env::args().skip(1).collect();
-    let folder = std::path::Path::new(arguments.first().expect("usage: driver FOLDER [quick]"));
-    let quick = arguments.iter().any(|a| a == "quick");
+fn time_all(quick: bool) -> Vec<Measured> {
     let sizes: &[usize] = if quick { &[4096, 16384] } else { &[16, 256, 4096, 16384] };
     let mut bench = Bench { rounds: if quick { 15 } else { 51 }, measured: Vec::new() };
-    // All of it several times over, so that a moment when the machine is slow does not fall on one call alone.
-    for _ in 0..if quick { 1 } else { 5 } {
-        for &n in sizes {
-            for name in SHAPES {
-                row_of(&mut bench, name, n);
-                // room for the longer row within 16,384
-                replacements(&mut bench, name, n.min(16384 - 8));
-                refusals(&mut bench, name, n);
-            }
+    for &n in sizes {
+        for name in SHAPES {
+            row_of(&mut bench, name, n);
+            // room for the longer row within 16,384
+            replacements(&mut bench, name, n.min(16384 - 8));
+            refusals(&mut bench, name, n);
         }
     }
-    let bars = bars::table(&bench.measured);
-    eprint!("{bars}");
-    std::fs::write(folder.join("measured.md"), bars + &picture::tables(&bench.measured)).expect("measured.md");
-    std::fs::write(folder.join("benchmarks.svg"), picture::lines(&bench.measured)).expect("benchmarks.svg");
+    bench.measured
+}
+
+fn main() {
+    let words: Vec<String> = std::env::args().skip(1).collect();
+    let words: Vec<&str> = words.iter().map(String::as_str).collect();
+    match words[..] {
+        ["time", file, ref rest @ ..] => {
+            let lines: String = time_all(rest.contains(&"quick")).iter().map(Measured::line).collect();
+            std::fs::write(file, lines).expect("the file of times");
+        }
+        ["tell", folder, ref files @ ..] => {
+            let read = |file: &&str| std::fs::read_to_string(file).expect("a file of times").lines().map(Measured::of_line).collect();
+            let all = medians(&files.iter().map(read).collect::<Vec<Vec<Measured>>>());
+            let folder = std::path::Path::new(folder);
+            let bars = bars::table(&all);
+            eprint!("{bars}");
+            std::fs::write(folder.join("measured.md"), bars + &picture::tables(&all)).expect("measured.md");
+            std::fs::write(folder.join("benchmarks.svg"), picture::lines(&all)).expect("benchmarks.svg");
+        }
+        _ => panic!("usage: driver time FILE [quick], driver tell FOLDER FILE.."),
+    }
 }

@@ -8,12 +8,12 @@ pub fn tables(all: &[Measured]) -> String {
     let mut text = String::from("| call | on | length | library, ns | of Rust, median | of Rust, worst | of C, median | of C, worst |\n|---|---|---|---|---|---|---|---|\n");
     let mut seen: Vec<(&str, &str, usize)> = Vec::new();
     for m in all {
-        let key = (m.call, m.on.as_str(), m.n);
+        let key = (m.call.as_str(), m.on.as_str(), m.n);
         if seen.contains(&key) {
             continue;
         }
         seen.push(key);
-        let same: Vec<&Measured> = all.iter().filter(|x| (x.call, x.on.as_str(), x.n) == key).collect();
+        let same: Vec<&Measured> = all.iter().filter(|x| (x.call.as_str(), x.on.as_str(), x.n) == key).collect();
         let column = |f: &dyn Fn(&Measured) -> f64| {
             let mut xs: Vec<f64> = same.iter().map(|x| f(x)).collect();
             xs.sort_by(f64::total_cmp);
