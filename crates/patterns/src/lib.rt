@@ -1,15 +1,13 @@
 // Patterns over a row with its table: the matches, and the variables at one match.
 ghost use mathlib.Core.Path.{_≡_};
 ghost use mathlib.Core.List.{List};
-ghost use mathlib.Core.Bool.{true, false};
-ghost use Prim.Native.Nat.{ℕ, _+_, _-_, _≤_, _<_};
+ghost use Prim.Native.Nat.{ℕ, _+_, _≤_, _<_};
 ghost use lib.ListN.{length, take, drop, getD};
-ghost use Rattle.rows.specs.Row.{pick};
 ghost use Rattle.rows.specs.Buffers.{written};
 ghost use Rattle.rows.specs.Refusals.{pattern};
 ghost use Rattle.patterns.specs.Pattern.{leaf};
 ghost use Rattle.patterns.specs.Searches.{Checked, Searchable, Next, Counts, Lists, Room, Binds};
-ghost use Rattle.patterns.specs.Walk.{sameSymbol, sameFront, SameAt, meets, steps, Ends, MarksIn, Meetable, Done, markBegin, markEnd, markSpans};
+ghost use Rattle.patterns.specs.Walk.{sameSymbol, sameFront, meets, steps, Ends, MarksIn, Meetable, Done, markBegin, markEnd, markSpans};
 use rows::Check;
 use rows::Leaves;
 use rows::Refusal;
@@ -51,45 +49,8 @@ pub fn same(x: u16, y: u16) -> bool
     x == y
 }
 
-// Were all the same, and are these two?
-fn still_same(all: bool, x: u16, y: u16) -> bool
-    ensures { λ r. ⌜ r ≡ pick (sameSymbol x y) all false ⌝ }
-{
-    if same(x, y) { all } else { false }
-}
-
-// Are the 64 symbols from a on the same as those from b on? All are looked at: the compiler does several at a time.
-fn same_stretch(row: &[u16], a: usize, b: usize) -> bool
-    requires { ⌜ (a + 64 ≤ length (now row)) × (b + 64 ≤ length (now row)) ⌝ }
-    ensures { λ r. ⌜ (r ≡ true → SameAt (now (row .entry)) a b 64) ⌝ }
-{
-    let mut all = true;
-    let mut k = 0;
-    while k < 64 {
-        all = still_same(all, row[a + k], row[b + k]);
-        k += 1;
-    }
-    all
-}
-
-// How many of the n symbols from a on are the same as those from b on, by whole stretches: it may be more.
-fn count_stretches(row: &[u16], a: usize, b: usize, n: usize) -> usize
-    requires { ⌜ (a + n ≤ length (now row)) × (b + n ≤ length (now row)) ⌝ }
-    ensures { λ r. ⌜ (r ≤ n) × (sameFront (take n (drop a (now (row .entry)))) (take n (drop b (now (row .entry)))) ≡ r + sameFront (take (n - r) (drop (a + r) (now (row .entry)))) (take (n - r) (drop (b + r) (now (row .entry))))) ⌝ }
-{
-    let mut i = 0;
-    while i + 64 <= n {
-        if same_stretch(row, a + i, b + i) {
-            i += 64;
-        } else {
-            return i;
-        }
-    }
-    i
-}
-
-// How many of them are the same, one by one: left at the first that differs.
-fn count_singly(row: &[u16], a: usize, b: usize, n: usize) -> usize
+// How many of the n symbols from a on are the same as those from b on: left at the first that differs.
+fn count_same(row: &[u16], a: usize, b: usize, n: usize) -> usize
     requires { ⌜ (a + n ≤ length (now row)) × (b + n ≤ length (now row)) ⌝ }
     ensures { λ r. ⌜ r ≡ sameFront (take n (drop a (now (row .entry)))) (take n (drop b (now (row .entry)))) ⌝ }
 {
@@ -102,15 +63,6 @@ fn count_singly(row: &[u16], a: usize, b: usize, n: usize) -> usize
         }
     }
     i
-}
-
-// How many of the n symbols from a on are the same as those from b on: left in the stretch where one differs.
-fn count_same(row: &[u16], a: usize, b: usize, n: usize) -> usize
-    requires { ⌜ (a + n ≤ length (now row)) × (b + n ≤ length (now row)) ⌝ }
-    ensures { λ r. ⌜ r ≡ sameFront (take n (drop a (now (row .entry)))) (take n (drop b (now (row .entry)))) ⌝ }
-{
-    let i = count_stretches(row, a, b, n);
-    i + count_singly(row, a + i, b + i, n - i)
 }
 
 // What a symbol of the pattern finds in the row: the position after what it stands for, or the position where it does
