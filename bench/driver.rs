@@ -1,6 +1,6 @@
 //! Times the library's calls beside the same calls in plain Rust and plain C.
 //! `driver time FILE [quick]` times them all once and writes a line for each to FILE; progress goes to standard error.
-//! `driver tell FOLDER FILE..` takes the median over such files, and writes FOLDER/measured.md (bars and tables of ratios) and
+//! `driver tell FOLDER FILE..` takes the least over such files, and writes FOLDER/measured.md (bars and tables of ratios) and
 //! FOLDER/benchmarks.svg (time against length).
 
 mod bars;
@@ -258,11 +258,11 @@ impl Measured {
     }
 }
 
-/// The medians of several measurements of the same calls, in the same order.
-fn medians(turns: &[Vec<Measured>]) -> Vec<Measured> {
+/// The least of several measurements of the same calls, in the same order: a busy machine and a bad place only add to a time.
+fn least(turns: &[Vec<Measured>]) -> Vec<Measured> {
     let one = |k: usize| {
         let same: Vec<&Measured> = turns.iter().map(|t| &t[k]).collect();
-        let ns = [0, 1, 2].map(|by| median(same.iter().map(|m| m.ns[by]).collect()));
+        let ns = [0, 1, 2].map(|by| same.iter().map(|m| m.ns[by]).fold(f64::INFINITY, f64::min));
         Measured { ns, ..Measured::of_line(&same[0].line()) }
     };
     (0..turns[0].len()).map(one).collect()
@@ -398,7 +398,7 @@ fn main() {
         }
         ["tell", folder, ref files @ ..] => {
             let read = |file: &&str| std::fs::read_to_string(file).expect("a file of times").lines().map(Measured::of_line).collect();
-            let all = medians(&files.iter().map(read).collect::<Vec<Vec<Measured>>>());
+            let all = least(&files.iter().map(read).collect::<Vec<Vec<Measured>>>());
             let folder = std::path::Path::new(folder);
             let bars = bars::table(&all);
             eprint!("{bars}");
