@@ -17,36 +17,26 @@ fn place(m: &Measured) -> String {
     format!("{}, {}, {}, {}", m.call, m.on, m.shape, m.n)
 }
 
-/// The library's time of another call on the same row, for rows that nearly have the length.
-fn beside(all: &[Measured], m: &Measured, call: &str, on: &str) -> f64 {
-    let other = all.iter().find(|x| x.call == call && x.on == on && x.shape == m.shape && x.n.abs_diff(m.n) <= 8);
-    other.map_or(f64::NAN, |x| x.ns[0])
-}
-
 /// A call whose cost may grow faster than the row.
 fn compares(m: &Measured) -> bool {
     m.on == "repeated variables"
 }
 
 pub fn table(all: &[Measured]) -> String {
-    let of = |by: usize| worst(all.iter().filter(|m| counts(m)).map(|m| (m.ns[0] / m.ns[by], place(m))));
-    let over = |mine: &dyn Fn(&Measured) -> bool, calls: f64, call: &str, on: &str| {
-        worst(all.iter().filter(|m| counts(m) && mine(m)).map(|m| (m.ns[0] / calls / beside(all, m, call, on), place(m))))
+    let of = |by: usize| worst(all.iter().filter(|m| counts(m)).map(|m| (m.of[by], place(m))));
+    let over = |mine: &dyn Fn(&Measured) -> bool, calls: f64| {
+        worst(all.iter().filter(|m| counts(m) && mine(m)).map(|m| (m.of[2] / calls, place(m))))
     };
     let grows = |mine: &dyn Fn(&Measured) -> bool| {
-        let long = all.iter().filter(|m| m.n >= 16384 - 8 && mine(m));
-        worst(long.filter_map(|m| {
-            let short = all.iter().find(|x| x.n == 4096 && x.call == m.call && x.on == m.on && x.shape == m.shape)?;
-            Some((m.ns[0] / m.n as f64 / (short.ns[0] / short.n as f64), place(m)))
-        }))
+        worst(all.iter().filter(|m| m.n >= 16384 - 8 && mine(m)).map(|m| (m.growth, place(m))))
     };
     let bars = [
-        ("a whole call, of the Rust", 1.0, of(1)),
-        ("a whole call, of the C", 1.15, of(2)),
-        ("find with a rare root, of one pass over row and table", 2.5, over(&|m| m.call == "find" && m.on == "rare root", 1.0, "pass", "accepted")),
-        ("a stale table, of one that is accepted", 3.0, over(&|m| m.on.contains("stale"), 1.0, "pass", "accepted")),
-        ("one replacement, of a build", 2.0, over(&|m| m.call == "replace and back", 2.0, "build", "accepted")),
-        ("the whole row replaced, of a build", 2.0, over(&|m| m.on == "whole row", 1.0, "build", "accepted")),
+        ("a whole call, of the Rust", 1.0, of(0)),
+        ("a whole call, of the C", 1.15, of(1)),
+        ("find with a rare root, of one pass over row and table", 2.5, over(&|m| m.call == "find" && m.on == "rare root", 1.0)),
+        ("a stale table, of one that is accepted", 3.0, over(&|m| m.on.contains("stale"), 1.0)),
+        ("one replacement, of a build", 2.0, over(&|m| m.call == "replace and back", 2.0)),
+        ("the whole row replaced, of a build", 2.0, over(&|m| m.on == "whole row", 1.0)),
         ("time for each symbol, at 16,384 of that at 4,096", 1.25, grows(&|m| !compares(m))),
     ];
     let mut text = String::from("| bar | at most | worst measured | where |\n|---|---|---|---|\n");

@@ -1,6 +1,6 @@
 //! Times the library's calls beside the same calls in plain Rust and plain C.
 //! `driver time FILE [quick]` times them all once and writes a line for each to FILE; progress goes to standard error.
-//! `driver tell FOLDER FILE..` takes the least over such files, and writes FOLDER/measured.md (bars and tables of ratios) and
+//! `driver tell FOLDER FILE..` takes the medians over such files, and writes FOLDER/measured.md (bars and tables of ratios) and
 //! FOLDER/benchmarks.svg (time against length).
 
 mod bars;
@@ -172,9 +172,9 @@ fn full_binary(row: &mut Vec<u16>, n: usize) {
     full_binary(row, n - 1 - (n - 1) / 2);
 }
 
-fn shape(name: &str, n: usize) -> Vec<u16> {
-    let mut random = Random(2026);
-    match name {
+fn row(shape: &str, n: usize, seed: u64) -> Vec<u16> {
+    let mut random = Random(seed);
+    match shape {
         "chain" => grown(n, |_, _| ONE),
         "left comb" => grown(n, |left, open| if open < left / 2 { TWO } else { 0 }),
         "full binary" => {
@@ -195,10 +195,53 @@ fn shape(name: &str, n: usize) -> Vec<u16> {
 
 const SHAPES: [&str; 6] = ["chain", "left comb", "full binary", "15-ary", "random", "equal subtrees"];
 
-fn table_of(row: &[u16]) -> Vec<u16> {
+/// A row with its table.
+#[derive(Clone)]
+struct Programme {
+    row: Vec<u16>,
+    table: Vec<u16>,
+}
+
+fn programme(row: Vec<u16>) -> Programme {
     let mut table = vec![0; row.len()];
-    assert!(baseline::build(&alphabet(), row, &mut table).is_ok(), "a row of {} symbols is no row", row.len());
-    table
+    assert!(baseline::build(&alphabet(), &row, &mut table).is_ok(), "a row of {} symbols is no row", row.len());
+    Programme { row, table }
+}
+
+/// The rows of one shape that a call is timed on, for each length those that it meets one after the other. Random ones are
+/// several, 65,536 symbols in all (256 rows at most): a processor that meets one row again and again learns its branches by
+/// heart, and a short row sooner than a long one.
+struct Rows {
+    shape: &'static str,
+    lengths: Vec<usize>,
+    all: Vec<Vec<Programme>>,
+}
+
+impl Rows {
+    fn new(shape: &'static str, lengths: Vec<usize>) -> Rows {
+        let of = |&n: &usize| {
+            let many = if shape == "random" { (65_536 / n).min(256) } else { 1 };
+            (0..many).map(|k| programme(row(shape, n, 2026 + k as u64))).collect()
+        };
+        Rows { shape, all: lengths.iter().map(of).collect(), lengths }
+    }
+
+    /// For the k-th call at the l-th length.
+    fn at(&self, l: usize, k: usize) -> &Programme {
+        &self.all[l][k % self.all[l].len()]
+    }
+
+    /// The same with something changed in each.
+    fn with(&self, change: impl Fn(&mut Programme)) -> Rows {
+        let mut all = self.all.clone();
+        all.iter_mut().flatten().for_each(change);
+        Rows { shape: self.shape, lengths: self.lengths.clone(), all }
+    }
+
+    /// Something of each.
+    fn map<T>(&self, f: impl Fn(&Programme) -> T) -> Vec<Vec<T>> {
+        self.all.iter().map(|same| same.iter().map(&f).collect()).collect()
+    }
 }
 
 // ---- timing
@@ -208,64 +251,57 @@ fn median(mut xs: Vec<f64>) -> f64 {
     xs[xs.len() / 2]
 }
 
-/// Nanoseconds of one call by each of the three, medians over interleaved rounds.
-fn time(rounds: usize, mut call: impl FnMut(By) -> Answer) -> [f64; 3] {
-    let said = call(By::Library);
-    for by in ALL {
-        assert_eq!(said, call(by), "the three do not agree");
-    }
-    let began = Instant::now();
-    call(By::Library);
-    let batch = (200_000 / began.elapsed().as_nanos().max(20)).clamp(1, 4_000) as usize;
-    let mut times: [Vec<f64>; 3] = Default::default();
-    for _ in 0..rounds {
-        for (by, times) in ALL.into_iter().zip(&mut times) {
-            let began = Instant::now();
-            for _ in 0..batch {
-                black_box(call(black_box(by)));
-            }
-            times.push(began.elapsed().as_nanos() as f64 / batch as f64);
-        }
-    }
-    times.map(median)
-}
-
-/// What was measured: the call, what it was called on, the row's shape and length, nanoseconds of library, Rust and C.
+/// What was measured: the call, what it was called on, the row's shape and length; nanoseconds of library, Rust and C; the library's
+/// time as a share of the Rust's, of the C's and of its own yardstick's (a pass or a build of the same rows); and its time for
+/// each symbol as a share of that at the length before, if there is one.
 pub struct Measured {
     pub call: String,
     pub on: String,
     pub shape: String,
     pub n: usize,
     pub ns: [f64; 3],
+    pub of: [f64; 3],
+    pub growth: f64,
 }
 
 impl Measured {
     fn line(&self) -> String {
-        let [a, b, c] = self.ns;
-        format!("{}\t{}\t{}\t{}\t{a}\t{b}\t{c}\n", self.call, self.on, self.shape, self.n)
+        let ([a, b, c], [r, s, t], g) = (self.ns, self.of, self.growth);
+        format!("{}\t{}\t{}\t{}\t{a}\t{b}\t{c}\t{r}\t{s}\t{t}\t{g}\n", self.call, self.on, self.shape, self.n)
     }
 
     fn of_line(line: &str) -> Measured {
         let words: Vec<&str> = line.trim_end().split('\t').collect();
-        let time = |k: usize| words[k].parse().expect("a time");
+        let number = |k: usize| words[k].parse().expect("a number");
         Measured {
             call: words[0].to_string(),
             on: words[1].to_string(),
             shape: words[2].to_string(),
             n: words[3].parse().expect("a length"),
-            ns: [time(4), time(5), time(6)],
+            ns: [4, 5, 6].map(number),
+            of: [7, 8, 9].map(number),
+            growth: number(10),
         }
     }
 }
 
-/// The least of several measurements of the same calls, in the same order: a busy machine and a bad place only add to a time.
-fn least(turns: &[Vec<Measured>]) -> Vec<Measured> {
+/// The medians of several measurements of the same calls, in the same order.
+fn medians(turns: &[Vec<Measured>]) -> Vec<Measured> {
     let one = |k: usize| {
-        let same: Vec<&Measured> = turns.iter().map(|t| &t[k]).collect();
-        let ns = [0, 1, 2].map(|by| same.iter().map(|m| m.ns[by]).fold(f64::INFINITY, f64::min));
-        Measured { ns, ..Measured::of_line(&same[0].line()) }
+        let over = |f: &dyn Fn(&Measured) -> f64| median(turns.iter().map(|turn| f(&turn[k])).collect());
+        let (ns, of) = ([0, 1, 2].map(|by| over(&|m| m.ns[by])), [0, 1, 2].map(|by| over(&|m| m.of[by])));
+        Measured { ns, of, growth: over(&|m| m.growth), ..Measured::of_line(&turns[0][k].line()) }
     };
     (0..turns[0].len()).map(one).collect()
+}
+
+/// Nanoseconds of one of several calls.
+fn timed(calls: std::ops::Range<usize>, mut call: impl FnMut(usize) -> Answer) -> f64 {
+    let (began, many) = (Instant::now(), calls.len());
+    for k in calls {
+        black_box(call(k));
+    }
+    began.elapsed().as_nanos() as f64 / many as f64
 }
 
 struct Bench {
@@ -274,10 +310,43 @@ struct Bench {
 }
 
 impl Bench {
-    fn add(&mut self, call: &str, on: &str, shape: &str, n: usize, f: impl FnMut(By) -> Answer) {
-        let ns = time(self.rounds, f);
-        eprintln!("{call}, {on}, {shape}, {n}: {:.0} ns, {:.2} of Rust, {:.2} of C", ns[0], ns[0] / ns[1], ns[0] / ns[2]);
-        self.measured.push(Measured { call: call.to_string(), on: on.to_string(), shape: shape.to_string(), n, ns });
+    /// Times a call by each of the three, and the yardstick, at each length. All of them are timed in every round, one after the
+    /// other, and each share is the median of the shares in the rounds: what slows the machine down for a while slows all.
+    /// A call is told who is called, which length, and how many calls there were.
+    fn add(
+        &mut self,
+        [call, on]: [&str; 2],
+        rows: &Rows,
+        mut f: impl FnMut(By, usize, usize) -> Answer,
+        mut yardstick: impl FnMut(usize, usize) -> Answer,
+    ) {
+        let lengths = 0..rows.lengths.len();
+        let once: Vec<f64> = lengths.clone().map(|l| timed(0..1, |k| f(By::Library, l, k))).collect();
+        let mut times = vec![[(); 4].map(|()| Vec::new()); lengths.len()];
+        for round in 0..self.rounds {
+            for l in lengths.clone() {
+                let batch = (200_000.0 / once[l].max(50.0)).clamp(1.0, 4_000.0) as usize;
+                let calls = round * batch..(round + 1) * batch;
+                let said = ALL.map(|by| f(by, l, calls.start));
+                assert!(said[0] == said[1] && said[0] == said[2], "{call}, {on}: the three do not agree: {said:?}");
+                for by in ALL {
+                    times[l][by as usize].push(timed(calls.clone(), |k| f(black_box(by), l, k)));
+                }
+                times[l][3].push(timed(calls, |k| yardstick(l, k)));
+            }
+        }
+        let share = |f: &dyn Fn(usize) -> f64| median((0..self.rounds).map(f).collect());
+        for (l, &n) in rows.lengths.iter().enumerate() {
+            let t = &times[l];
+            let ns = [0, 1, 2].map(|by| median(t[by].clone()));
+            let of = [1, 2, 3].map(|by| share(&|round| t[0][round] / t[by][round]));
+            let each = |l: usize, round: usize| times[l][0][round] / rows.lengths[l] as f64;
+            let growth = if l == 0 { f64::NAN } else { share(&|round| each(l, round) / each(l - 1, round)) };
+            let [r, c, y] = of;
+            eprintln!("{call}, {on}, {}, {n}: {:.0} ns, {r:.2} of Rust, {c:.2} of C, {y:.2} of the yardstick, growth {growth:.2}", rows.shape, ns[0]);
+            let [call, on, shape] = [call, on, rows.shape].map(str::to_string);
+            self.measured.push(Measured { call, on, shape, n, ns, of, growth });
+        }
     }
 }
 
@@ -297,93 +366,117 @@ fn common(name: &str) -> u16 {
     }
 }
 
-fn patterns(name: &str, row: &[u16], table: &[u16]) -> Vec<(&'static str, Vec<u16>)> {
-    let common = common(name);
+/// The patterns that are sought in a row, each with its name.
+fn patterns(shape: &str, p: &Programme) -> Vec<(&'static str, Vec<u16>)> {
+    let common = common(shape);
     let mut all = vec![("rare root", over(15, 65535)), ("common root", over(common, 65535)), ("bare S", vec![65535])];
     if common != ONE {
         all.push(("repeated variables", over(common, 65280)));
     }
-    let most = row.len().min(256);
-    let stretch = (0..row.len()).map(|p| (p, table[p] as usize - p)).filter(|&(_, size)| size <= most).max_by_key(|&(_, size)| size);
-    if let Some((p, size)) = stretch {
-        all.push(("long fixed stretch", row[p..p + size].to_vec()));
-    }
+    let most = p.row.len().min(256);
+    let sizes = p.table.iter().enumerate().map(|(begin, &end)| (begin, end as usize - begin));
+    let (begin, size) = sizes.filter(|&(_, size)| size <= most).max_by_key(|&(_, size)| size).expect("a leaf");
+    all.push(("long fixed stretch", p.row[begin..begin + size].to_vec()));
     all
 }
 
-/// The calls on one row.
-fn row_of(bench: &mut Bench, name: &str, n: usize) {
+/// Build, find and variables. The yardstick is a pass.
+fn searches(bench: &mut Bench, rows: &Rows) {
     let arities = alphabet();
-    let row = shape(name, n);
-    let right = table_of(&row);
-    let mut table = right.clone();
-    let mut out = vec![0; n];
-    bench.add("pass", "accepted", name, n, |by| pass(by, &arities, &row, &right));
-    bench.add("build", "accepted", name, n, |by| build(by, &arities, &row, &mut table));
-    for (on, pattern) in patterns(name, &row, &right) {
-        bench.add("find", on, name, n, |by| find(by, &arities, &row, &right, &pattern, &mut out));
+    let (mut table, mut out, mut spans) = (vec![0; 16384], vec![0; 16384], [0; 32]);
+    let beside = |l, k| pass(By::Library, &arities, &rows.at(l, k).row, &rows.at(l, k).table);
+    bench.add(["pass", "accepted"], rows, |by, l, k| pass(by, &arities, &rows.at(l, k).row, &rows.at(l, k).table), beside);
+    bench.add(["build", "accepted"], rows, |by, l, k| build(by, &arities, &rows.at(l, k).row, &mut table), beside);
+    let sought = rows.map(|p| patterns(rows.shape, p));
+    for (which, (on, _)) in sought[0][0].iter().enumerate() {
+        let call = |by, l: usize, k: usize| {
+            let (p, same) = (rows.at(l, k), &sought[l]);
+            find(by, &arities, &p.row, &p.table, &same[k % same.len()][which].1, &mut out)
+        };
+        bench.add(["find", on], rows, call, beside);
     }
-    let mut spans = [0; 32];
-    bench.add("variables", "bare X0", name, n, |by| variables(by, &arities, &row, &right, &[65280], 0, &mut spans));
-    bench.add("plain matcher", "bare X0", name, n, |by| plain_match(by, &arities, &row, &[65280], 0));
-    let first = (0..n).find(|&p| row[p] == common(name)).unwrap_or(0);
-    for (on, leaf) in [("common root over S", 65535), ("common root over X0", 65280)] {
-        let pattern = over(row[first], leaf);
-        bench.add("plain matcher", on, name, n, |by| plain_match(by, &arities, &row, &pattern, first));
-    }
-    let last = (0..n).rev().find(|&p| row[p] > 1).unwrap_or(0);
-    let own = &row[last..right[last] as usize];
-    bench.add("plain matcher", "last node", name, n, |by| plain_match(by, &arities, &row, own, last));
+    let call = |by, l, k| variables(by, &arities, &rows.at(l, k).row, &rows.at(l, k).table, &[65280], 0, &mut spans);
+    bench.add(["variables", "bare X0"], rows, call, beside);
 }
 
-/// A replacement and putting back, together: each pair leaves the row as it was.
-fn replacements(bench: &mut Bench, name: &str, n: usize) {
+/// The plain matcher. The yardstick is a pass.
+fn plain(bench: &mut Bench, rows: &Rows) {
     let arities = alphabet();
-    let row = shape(name, n);
-    let right = table_of(&row);
-    let leaves: Vec<usize> = (0..n).filter(|&p| row[p] < 2).collect();
-    for (place, p) in [("front", leaves[0]), ("middle", leaves[leaves.len() / 2]), ("end", leaves[leaves.len() - 1])] {
+    let first = |p: &Programme| p.row.iter().position(|&s| s == common(rows.shape)).unwrap_or(0);
+    let last = |p: &Programme| p.row.iter().rposition(|&s| s > 1).unwrap_or(0);
+    let asked = [
+        ("bare X0", rows.map(|_| (0, vec![65280]))),
+        ("common root over S", rows.map(|p| (first(p), over(p.row[first(p)], 65535)))),
+        ("common root over X0", rows.map(|p| (first(p), over(p.row[first(p)], 65280)))),
+        ("last node", rows.map(|p| (last(p), p.row[last(p)..p.table[last(p)] as usize].to_vec()))),
+    ];
+    for (on, all) in &asked {
+        let call = |by, l: usize, k: usize| {
+            let (at, pattern) = &all[l][k % all[l].len()];
+            plain_match(by, &arities, &rows.at(l, k).row, pattern, *at)
+        };
+        bench.add(["plain matcher", on], rows, call, |l, k| pass(By::Library, &arities, &rows.at(l, k).row, &rows.at(l, k).table));
+    }
+}
+
+/// A replacement and putting back, together: each pair leaves the row as it was. The yardstick is a build.
+fn replacements(bench: &mut Bench, rows: &Rows) {
+    let arities = alphabet();
+    let mut table = vec![0; 16384];
+    let mut roomy = rows.with(|p| {
+        p.row.extend([0; 8]);
+        p.table.extend([0; 8]);
+    });
+    let mut beside = |l, k| build(By::Library, &arities, &rows.at(l, k).row, &mut table);
+    for (place, quarter) in [("front", 0), ("middle", 2), ("end", 4)] {
+        let leaves = rows.map(|p| {
+            let leaves: Vec<usize> = (0..p.row.len()).filter(|&at| p.row[at] < 2).collect();
+            leaves[(leaves.len() - 1) * quarter / 4]
+        });
         for (on, new) in [("same size", vec![1]), ("grow and shrink", vec![ONE, ONE, TWO, 0, 1])] {
-            let (mut r, mut t) = (row.clone(), right.clone());
-            r.resize(n + 8, 0);
-            t.resize(n + 8, 0);
-            let old = [row[p]];
-            bench.add("replace and back", &format!("{on}, {place}"), name, n, |by| {
-                let there = replace(by, &arities, &mut r, &mut t, n, &new, p);
-                replace(by, &arities, &mut r, &mut t, there.count as usize, &old, p)
-            });
+            let call = |by, l: usize, k: usize| {
+                let (which, n) = (k % leaves[l].len(), rows.lengths[l]);
+                let (p, at) = (&mut roomy.all[l][which], leaves[l][which]);
+                let there = replace(by, &arities, &mut p.row, &mut p.table, n, &new, at);
+                let old = &rows.all[l][which].row[at..at + 1];
+                replace(by, &arities, &mut p.row, &mut p.table, there.count as usize, old, at)
+            };
+            bench.add(["replace and back", &format!("{on}, {place}")], rows, call, &mut beside);
         }
     }
-    let (mut r, mut t) = (row.clone(), right);
-    bench.add("replace", "whole row", name, n, |by| replace(by, &arities, &mut r, &mut t, n, &row, 0));
+    let call = |by, l: usize, k: usize| {
+        let which = k % rows.all[l].len();
+        let p = &mut roomy.all[l][which];
+        replace(by, &arities, &mut p.row, &mut p.table, rows.lengths[l], &rows.all[l][which].row, 0)
+    };
+    bench.add(["replace", "whole row"], rows, call, &mut beside);
 }
 
-/// Refused input: a bad last number, and a stale first and last entry.
-fn refusals(bench: &mut Bench, name: &str, n: usize) {
+/// Refused input: a bad last number, and a stale first and last entry. The yardstick is a pass over the same rows, accepted.
+fn refusals(bench: &mut Bench, rows: &Rows) {
     let arities = alphabet();
-    let row = shape(name, n);
-    let right = table_of(&row);
-    let mut bad = row.clone();
-    bad[n - 1] = 999;
-    let (mut table, mut out) = (right.clone(), vec![0; n]);
-    bench.add("build", "refused, bad last number", name, n, |by| build(by, &arities, &bad, &mut table));
-    for (on, p) in [("refused, stale first entry", 0), ("refused, stale last entry", n - 1)] {
-        let mut stale = right.clone();
-        stale[p] ^= 1;
-        bench.add("find", on, name, n, |by| find(by, &arities, &row, &stale, &[65535], &mut out));
+    let (mut table, mut out) = (vec![0; 16384], vec![0; 16384]);
+    let beside = |l, k| pass(By::Library, &arities, &rows.at(l, k).row, &rows.at(l, k).table);
+    let bad = rows.with(|p| *p.row.last_mut().expect("a symbol") = 999);
+    bench.add(["build", "refused, bad last number"], rows, |by, l, k| build(by, &arities, &bad.at(l, k).row, &mut table), beside);
+    let first = rows.with(|p| p.table[0] ^= 1);
+    let last = rows.with(|p| *p.table.last_mut().expect("an entry") ^= 1);
+    for (on, stale) in [("refused, stale first entry", first), ("refused, stale last entry", last)] {
+        let call = |by, l, k| find(by, &arities, &stale.at(l, k).row, &stale.at(l, k).table, &[65535], &mut out);
+        bench.add(["find", on], rows, call, beside);
     }
 }
 
 fn time_all(quick: bool) -> Vec<Measured> {
-    let sizes: &[usize] = if quick { &[4096, 16384] } else { &[16, 256, 4096, 16384] };
+    let lengths = if quick { vec![4096, 16384] } else { vec![16, 256, 4096, 16384] };
     let mut bench = Bench { rounds: if quick { 15 } else { 51 }, measured: Vec::new() };
-    for &n in sizes {
-        for name in SHAPES {
-            row_of(&mut bench, name, n);
-            // room for the longer row within 16,384
-            replacements(&mut bench, name, n.min(16384 - 8));
-            refusals(&mut bench, name, n);
-        }
+    for shape in SHAPES {
+        let rows = Rows::new(shape, lengths.clone());
+        searches(&mut bench, &rows);
+        plain(&mut bench, &rows);
+        refusals(&mut bench, &rows);
+        // room for the longer row within 16,384
+        replacements(&mut bench, &Rows::new(shape, lengths.iter().map(|&n| n.min(16384 - 8)).collect()));
     }
     bench.measured
 }
@@ -398,7 +491,7 @@ fn main() {
         }
         ["tell", folder, ref files @ ..] => {
             let read = |file: &&str| std::fs::read_to_string(file).expect("a file of times").lines().map(Measured::of_line).collect();
-            let all = least(&files.iter().map(read).collect::<Vec<Vec<Measured>>>());
+            let all = medians(&files.iter().map(read).collect::<Vec<Vec<Measured>>>());
             let folder = std::path::Path::new(folder);
             let bars = bars::table(&all);
             eprint!("{bars}");

@@ -19,13 +19,13 @@ pub fn tables(all: &[Measured]) -> String {
             xs.sort_by(f64::total_cmp);
             (xs[xs.len() / 2], xs[xs.len() - 1])
         };
-        let (ns, (rust, rust_worst), (c, c_worst)) = (column(&|x| x.ns[0]).0, column(&|x| x.ns[0] / x.ns[1]), column(&|x| x.ns[0] / x.ns[2]));
+        let (ns, (rust, rust_worst), (c, c_worst)) = (column(&|x| x.ns[0]).0, column(&|x| x.of[0]), column(&|x| x.of[1]));
         writeln!(text, "| {} | {} | {} | {ns:.0} | {rust:.2} | {rust_worst:.2} | {c:.2} | {c_worst:.2} |", m.call, m.on, m.n).unwrap();
     }
     text.push_str("\n## Every measurement\n\n| call | on | row | length | library, ns | Rust, ns | C, ns | library/Rust | library/C |\n|---|---|---|---|---|---|---|---|---|\n");
     for m in all {
-        let [a, b, c] = m.ns;
-        writeln!(text, "| {} | {} | {} | {} | {a:.0} | {b:.0} | {c:.0} | {:.2} | {:.2} |", m.call, m.on, m.shape, m.n, a / b, a / c).unwrap();
+        let ([a, b, c], [r, s, _]) = (m.ns, m.of);
+        writeln!(text, "| {} | {} | {} | {} | {a:.0} | {b:.0} | {c:.0} | {r:.2} | {s:.2} |", m.call, m.on, m.shape, m.n).unwrap();
     }
     text
 }

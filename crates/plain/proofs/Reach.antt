@@ -1,30 +1,19 @@
 -- Reading a tree off the rest of a row from left to right, counting the symbols that are due.
 -- Assumes nothing.
-use Prim.Native.Nat.{ℕ, zero, suc, _+_, _-_, _<_}
-use mathlib.Core.Path.{_≡_, refl, sym, ap, _∙_, subst}
+use Prim.Native.Nat.{ℕ, suc, _+_, _-_, _<_}
+use mathlib.Core.Path.{_≡_, ap, _∙_, subst}
 use mathlib.Core.List.{List}
-use native.Mathlib.Nat.{add-zero, zero-add, suc-add}
+use native.Mathlib.Nat.{add-zero, zero-add}
 use native.Mathlib.Omega.{arith}
 use lib.Dec.{ltb→lt}
 use lib.ListN.{length, getD, drop, length-drop}
-use Rattle.rows.specs.Tree.{Forest, Forest.none, Forest.grow, size}
-use Rattle.rows.specs.Parse.{first, rest, over, parse}
+use Rattle.rows.specs.Tree.{Forest, size}
+use Rattle.rows.specs.Parse.{first, over, parse}
 use Rattle.rows.specs.Row.{symbol}
 use Rattle.rows.proofs.Scan.{drop-more}
 use Rattle.rows.proofs.Behind.{behind, behind-over}
 use Rattle.plain.specs.Plain.{Spells}
-use Rattle.plain.proofs.Spelling.{spells-some, spells-next}
-
-first-none : (k : ℕ) → first k none ≡ none
-unfolding first
-first-none zero = refl
-first-none (suc k) = refl
-
-size-add : (a k : ℕ) (g : Forest) → size (first (a + k) g) ≡ size (first a g) + size (first k (rest a g))
-unfolding first rest size
-size-add zero k g = ap (λ (n : ℕ). size (first n g)) (zero-add k) ∙ sym (zero-add (size (first k g)))
-size-add (suc a) k none = ap size (first-none (suc a + k)) ∙ sym (zero-add (size (first k none)) ∙ ap size (first-none k))
-size-add (suc a) k (grow s cs f) = ap (λ (n : ℕ). size (first n (grow s cs f))) (suc-add a k) ∙ omega (arith, size-add a k f)
+use Rattle.plain.proofs.Spelling.{size-add, spells-some, spells-next}
 
 -- where the next n trees from place i on end
 unfoldable pub reach : List ℕ → List ℕ → ℕ → ℕ → ℕ

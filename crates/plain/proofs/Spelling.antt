@@ -1,9 +1,10 @@
 -- What the rest of a row or of a pattern spells: its first symbol over the children, and the trees behind the first ones.
 -- Assumes nothing.
 use Prim.Native.Nat.{ℕ, zero, suc, _+_, _-_, _≤_, _<_}
-use mathlib.Core.Path.{_≡_, sym, ap, _∙_, subst}
+use mathlib.Core.Path.{_≡_, refl, sym, ap, _∙_, subst}
 use mathlib.Core.List.{List, [], _∷_, _++_}
 use mathlib.Core.Bool.{Bool}
+use native.Mathlib.Nat.{zero-add, suc-add}
 use native.Mathlib.Omega.{arith}
 use lib.Dec.{T}
 use lib.ListN.{length, getD, take, drop, length-drop}
@@ -27,10 +28,17 @@ unfolding count size first
 first-one none h = absurd (omega arith)
 first-one (grow s cs f) h = omega arith
 
-size-more : (k : ℕ) (g : Forest) → 1 ≤ count g → size (first (suc k) g) ≡ size (first 1 g) + size (first k (rest 1 g))
-unfolding count size first rest
-size-more k none h = absurd (omega arith)
-size-more k (grow s cs f) h = omega arith
+first-none : (k : ℕ) → first k none ≡ none
+unfolding first
+first-none zero = refl
+first-none (suc k) = refl
+
+-- some trees, then some more
+pub size-add : (a k : ℕ) (g : Forest) → size (first (a + k) g) ≡ size (first a g) + size (first k (rest a g))
+unfolding first rest size
+size-add zero k g = ap (λ (n : ℕ). size (first n g)) (zero-add k) ∙ sym (zero-add (size (first k g)))
+size-add (suc a) k none = ap size (first-none (suc a + k)) ∙ sym (zero-add (size (first k none)) ∙ ap size (first-none k))
+size-add (suc a) k (grow s cs f) = ap (λ (n : ℕ). size (first n (grow s cs f))) (suc-add a k) ∙ omega (arith, size-add a k f)
 
 module _ (A : List ℕ) (ok : ℕ → Bool) where
   -- a list that spells a tree is not empty
@@ -77,29 +85,20 @@ module _ (A : List ℕ) (ok : ℕ → Bool) where
       ap (parse A) (ap (drop (size (first k g))) cut ∙ drop-at (prefix (first k g)) (prefix (rest k g)) (size (first k g)) (length-prefix (first k g)))
       ∙ parse-prefix A ok (rest k g) (ranked-rest A ok k g r)
 
-  module _ (k p : ℕ) (l : List ℕ) (some : 0 < k) (s : Spells A ok k l) (e : p ≡ size (first 1 (parse A l))) where
-    others : parse A (drop p l) ≡ rest 1 (parse A l)
-    others = ap (λ (n : ℕ). parse A (drop n l)) e ∙ parse-behind 1 l (s .ranked)
+  module _ (k i p : ℕ) (l : List ℕ) (h : i ≤ k) (s : Spells A ok k l) (e : p ≡ size (first i (parse A l))) where
+    others : parse A (drop p l) ≡ rest i (parse A l)
+    others = ap (λ (n : ℕ). parse A (drop n l)) e ∙ parse-behind i l (s .ranked)
 
-    pub spells-behind : Spells A ok (k - 1) (drop p l)
+    pub spells-behind : Spells A ok (k - i) (drop p l)
     spells-behind =
         record {
           ranked = ranked-drop p l (s .ranked);
-          many = omega (arith, s .many, ap count others, count-rest 1 (parse A l) (omega (arith, s .many)));
+          many = omega (arith, s .many, ap count others, count-rest i (parse A l) (omega (arith, s .many)));
         }
 
-    -- the first k trees are one, and k - 1 of the others
-    pub first-more : (j : ℕ) → j ≡ size (first (k - 1) (parse A (drop p l))) → p + j ≡ size (first k (parse A l))
-    first-more j d =
-        let up : suc (k - 1) ≡ k = omega arith in
-        omega (
-          arith,
-          e,
-          d,
-          ap (λ (g : Forest). size (first (k - 1) g)) others,
-          size-more (k - 1) (parse A l) (omega (arith, s .many)),
-          ap (λ (i : ℕ). size (first i (parse A l))) up,
-        )
+    -- and one more of them
+    pub first-more : (j : ℕ) → j ≡ size (first 1 (parse A (drop p l))) → p + j ≡ size (first (i + 1) (parse A l))
+    first-more j d = omega (arith, e, d, ap (λ (g : Forest). size (first 1 g)) others, size-add i 1 (parse A l))
 
   -- how many symbols the first tree takes: some
   pub first-some : (k : ℕ) (l : List ℕ) → 0 < k → Spells A ok k l → 0 < size (first 1 (parse A l))

@@ -1,7 +1,7 @@
 -- Trying trees of the pattern one after the other: what is lent on, and how what each tells adds up.
 -- Assumes nothing.
 use Prim.Native.Nat.{ℕ, zero, suc, _+_, _-_, _≤_, _<_}
-use mathlib.Core.Path.{_≡_, sym, ap, ap₂, _∙_, subst, subst₂}
+use mathlib.Core.Path.{_≡_, refl, sym, ap, ap₂, _∙_, subst, subst₂}
 use mathlib.Core.List.{List, [], _∷_}
 use mathlib.Core.Bool.{Bool, true, false}
 use native.Mathlib.Nat.{add-zero}
@@ -267,70 +267,56 @@ module _ (A q l u ms : List ℕ) (h : Lent A q l u ms 1) where
               let o : Outcome = meets l e j ms i (getD ms i 0) in
               step-on (misses x) (steps-met ∙ answer-miss o ms x ms′ (subst (λ (v : Stepped). Done o ms v ms′) y (a e end-is)))
 
--- one tree, then the others
-module _ (A q l u ms : List ℕ) (k : ℕ) (h : Lent A q l u ms k) (more : 0 < k) where
-  pub lent-first : Lent A q l u ms 1
-  lent-first =
-      record {
-        few = h .few;
-        most = h .most;
-        end = h .end;
-        pattern = record { ranked = h .pattern .ranked; many = omega (arith, h .pattern .many) };
-        row = record { ranked = h .row .ranked; many = omega (arith, h .row .many) };
-        marks = h .marks;
-      }
-
-  module _ (p n : ℕ) (ms′ : List ℕ) (c : Passes A q l u ms 1 p n ms′) where
-    -- the first takes some of the pattern
-    some-taken : 0 < p
-    some-taken = omega (arith, c .numbers, first-some A (allowed Blanks A) k q more (h .pattern))
-
-    -- what is left of the pattern is shorter
-    pub shorter-others : length (tail q p) < length q
-    shorter-others = omega (arith, ap length (tail-is q p), length-drop p q, some-taken, taken c .0)
-
-    starts-others : starts l (tail u n) ≡ starts l u + n
-    starts-others = ap (starts l) (tail-is u n) ∙ starts-on A q l u ms k h n (taken c .1)
-
-    pub lent-others : Lent A (tail q p) l (tail u n) ms′ (k - 1)
-    lent-others =
-        record {
-          few = h .few;
-          most = h .most;
-          end = subst (λ (v : List ℕ). v ≡ drop (starts l v) l) (sym (tail-is u n)) (end-on A q l u ms k h n (taken c .1));
-          pattern =
-              subst (Spells A (allowed Blanks A) (k - 1)) (sym (tail-is q p)) (spells-behind A (allowed Blanks A) k p q more (h .pattern) (c .numbers));
-          row = subst (Spells A (symbol A) (k - 1)) (sym (tail-is u n)) (spells-behind A (symbol A) k n u more (h .row) (c .symbols));
-          marks = subst (λ (i : ℕ). MarksIn i ms′) (sym starts-others) (c .marks);
-        }
-
-    walk-others : walk l (table A l) q (starts l u) ms ≡ walk l (table A l) (tail q p) (starts l (tail u n)) ms′
-    walk-others = c .walks ∙ ap₂ (λ (v : List ℕ) (i : ℕ). walk l (table A l) v i ms′) (sym (tail-is q p)) (sym starts-others)
-
-    pub passes-others : (p′ n′ : ℕ) (ms″ : List ℕ) → Passes A (tail q p) l (tail u n) ms′ (k - 1) p′ n′ ms″ → Passes A q l u ms k (p + p′) (n + n′) ms″
-    passes-others p′ n′ ms″ d =
-        let far : starts l (tail u n) + n′ ≡ starts l u + (n + n′) = omega (arith, starts-others) in
-        record {
-          numbers =
-              first-more A (allowed Blanks A) k p q more (h .pattern) (c .numbers) p′
-              (d .numbers ∙ ap (λ (v : List ℕ). size (first (k - 1) (parse A v))) (tail-is q p));
-          symbols =
-              first-more A (symbol A) k n u more (h .row) (c .symbols) n′
-              (d .symbols ∙ ap (λ (v : List ℕ). size (first (k - 1) (parse A v))) (tail-is u n));
-          marks = subst (λ (i : ℕ). MarksIn i ms″) far (d .marks);
-          walks = walk-others ∙ d .walks ∙ ap₂ (λ (v : List ℕ) (i : ℕ). walk l (table A l) v i ms″) (ap (drop p′) (tail-is q p) ∙ drop-drop p′ p q) far;
-        }
-
-    pub misses-others : (x : ℕ) → walk l (table A l) (tail q p) (starts l (tail u n)) ms′ ≡ misses x → walk l (table A l) q (starts l u) ms ≡ misses x
-    misses-others x z = walk-others ∙ z
-
--- no trees
-pub passes-none : (A q l u ms : List ℕ) (k : ℕ) → k ≡ 0 → Lent A q l u ms k → Passes A q l u ms k 0 0 ms
+-- no tree is tried yet
+pub passes-none : (A q l u ms : List ℕ) (k : ℕ) → Lent A q l u ms k → Passes A q l u ms 0 0 0 ms
 unfolding first size
-passes-none A q l u ms k e h =
+passes-none A q l u ms k h =
     record {
-      numbers = sym (ap (λ (i : ℕ). size (first i (parse A q))) e);
-      symbols = sym (ap (λ (i : ℕ). size (first i (parse A u))) e);
+      numbers = refl;
+      symbols = refl;
       marks = subst (λ (i : ℕ). MarksIn i ms) (sym (add-zero (starts l u))) (h .marks);
       walks = ap (λ (i : ℕ). walk l (table A l) q i ms) (sym (add-zero (starts l u)));
     }
+
+-- i trees fit so far, and one more is tried
+module _ (A q l u ms : List ℕ) (k : ℕ) (h : Lent A q l u ms k) (i p n : ℕ) (ms′ : List ℕ) (less : i < k) (c : Passes A q l u ms i p n ms′) where
+  starts-next : starts l (tail u n) ≡ starts l u + n
+  starts-next = ap (starts l) (tail-is u n) ∙ starts-on A q l u ms k h n (taken c .1)
+
+  one : (ok : ℕ → Bool) (v : List ℕ) → Spells A ok (k - i) v → Spells A ok 1 v
+  one ok v s = record { ranked = s .ranked; many = omega (arith, s .many) }
+
+  pub lent-next : Lent A (tail q p) l (tail u n) ms′ 1
+  lent-next =
+      record {
+        few = h .few;
+        most = h .most;
+        end = subst (λ (v : List ℕ). v ≡ drop (starts l v) l) (sym (tail-is u n)) (end-on A q l u ms k h n (taken c .1));
+        pattern =
+            subst (Spells A (allowed Blanks A) 1) (sym (tail-is q p))
+            (one (allowed Blanks A) (drop p q) (spells-behind A (allowed Blanks A) k i p q (omega arith) (h .pattern) (c .numbers)));
+        row =
+            subst (Spells A (symbol A) 1) (sym (tail-is u n))
+            (one (symbol A) (drop n u) (spells-behind A (symbol A) k i n u (omega arith) (h .row) (c .symbols)));
+        marks = subst (λ (j : ℕ). MarksIn j ms′) (sym starts-next) (c .marks);
+      }
+
+  walk-next : walk l (table A l) q (starts l u) ms ≡ walk l (table A l) (tail q p) (starts l (tail u n)) ms′
+  walk-next = c .walks ∙ ap₂ (λ (v : List ℕ) (j : ℕ). walk l (table A l) v j ms′) (sym (tail-is q p)) (sym starts-next)
+
+  pub passes-next : (p′ n′ : ℕ) (ms″ : List ℕ) → Passes A (tail q p) l (tail u n) ms′ 1 p′ n′ ms″ → Passes A q l u ms (i + 1) (p + p′) (n + n′) ms″
+  passes-next p′ n′ ms″ d =
+      let far : starts l (tail u n) + n′ ≡ starts l u + (n + n′) = omega (arith, starts-next) in
+      record {
+        numbers =
+            first-more A (allowed Blanks A) k i p q (omega arith) (h .pattern) (c .numbers) p′
+            (d .numbers ∙ ap (λ (v : List ℕ). size (first 1 (parse A v))) (tail-is q p));
+        symbols =
+            first-more A (symbol A) k i n u (omega arith) (h .row) (c .symbols) n′
+            (d .symbols ∙ ap (λ (v : List ℕ). size (first 1 (parse A v))) (tail-is u n));
+        marks = subst (λ (j : ℕ). MarksIn j ms″) far (d .marks);
+        walks = walk-next ∙ d .walks ∙ ap₂ (λ (v : List ℕ) (j : ℕ). walk l (table A l) v j ms″) (ap (drop p′) (tail-is q p) ∙ drop-drop p′ p q) far;
+      }
+
+  pub misses-next : (x : ℕ) → walk l (table A l) (tail q p) (starts l (tail u n)) ms′ ≡ misses x → walk l (table A l) q (starts l u) ms ≡ misses x
+  misses-next x z = walk-next ∙ z

@@ -86,18 +86,17 @@ fn children(
     requires { ⌜ Lent (now arities) (now pattern) (now part) (now rest) (now marks) k ⌝ }
     ensures { λ r. ⌜ Tells (now (arities .entry)) (now (pattern .entry)) (now (part .entry)) (now (rest .entry)) (now (marks .entry)) k r (now (marks .exit)) ⌝ }
 {
-    if k == 0 {
-        return Tried::Past(0, 0);
+    let mut p = 0;
+    let mut r = 0;
+    for _ in 0..k {
+        let next = node(arities, &pattern[p..], part, &rest[r..], marks);
+        let Tried::Past(more, further) = next else {
+            return next;
+        };
+        p += more;
+        r += further;
     }
-    let first = node(arities, pattern, part, rest, marks);
-    let Tried::Past(p, r) = first else {
-        return first;
-    };
-    let others = children(arities, k - 1, &pattern[p..], part, &rest[r..], marks);
-    let Tried::Past(more, further) = others else {
-        return others;
-    };
-    Tried::Past(p + more, r + further)
+    Tried::Past(p, r)
 }
 
 // Does the pattern match the first tree of the part?

@@ -6,11 +6,12 @@ use mathlib.Core.List.{List, [], _∷_}
 use mathlib.Core.Bool.{Bool, true, false}
 use native.Mathlib.Numerals.{add-one}
 use native.Mathlib.Omega.{arith}
+use native.Mathlib.Decide.{decLt}
 use lib.Dec.{ltb, eqb}
-use lib.ListN.{length, getD, drop, drop-of-length-le}
-use lib.Seq.{drop-cons}
+use lib.ListN.{length, getD, take, drop, length-drop, drop-of-length-le}
+use lib.Seq.{drop-cons, length-take-le, getD-take, getD-drop}
 use borrow.Author.Tests.{lt-ltb, ltb-false}
-use Rattle.rows.specs.Row.{pick, verdict, allowed, sized}
+use Rattle.rows.specs.Row.{pick, verdict, ReadTo, SymbolsTo, allowed, sized}
 use Rattle.rows.specs.declared.Leaves.{Leaves}
 use Rattle.rows.specs.declared.Leaves.the-variants.{Symbols, Blanks}
 use Rattle.rows.specs.Refusals.{aritiesFit, someLeaf}
@@ -56,10 +57,64 @@ verdict-early A ok (suc k) i h = refl
 pub verdict-end : (A : List ℕ) (ok : ℕ → Bool) (l : List ℕ) (k i : ℕ) → length l ≤ i → verdict A ok k i (drop i l) ≡ verdict A ok k i []
 verdict-end A ok l k i h = ap (verdict A ok k i) (drop-of-length-le l h)
 
+-- a list that is read up to position i
+pub read-start : (A : List ℕ) (ok : ℕ → Bool) (w : List ℕ) → ReadTo A ok w 0 1
+read-start A ok w = (omega arith, omega arith, omega arith, refl)
+
+module _ (A : List ℕ) (ok : ℕ → Bool) (w : List ℕ) (i due : ℕ) (r : ReadTo A ok w i due) where
+  -- its numbers have run out
+  pub read-done : length w ≤ i → verdict A ok 1 0 w ≡ verdict A ok (due - length w) (length w) []
+  read-done h =
+      let end : i ≡ length w = omega arith in
+      r .3 ∙ verdict-end A ok w (due - i) i h ∙ ap (λ (n : ℕ). verdict A ok (due - n) n []) end
+
+  -- the number at i: nothing is due there, or it may not stand, or its children are due
+  module _ (h : i < length w) where
+    pub read-extra : due ≡ i → verdict A ok 1 0 w ≡ Faulty (Extra i)
+    read-extra e =
+        let none : due - i ≡ 0 = omega arith in
+        r .3 ∙ ap (λ (n : ℕ). verdict A ok n i (drop i w)) none ∙ verdict-extra A ok w i h
+
+    module _ (more : i < due) where
+      read-here : (b : Bool) → ok (getD w i 0) ≡ b
+          → verdict A ok 1 0 w ≡ pick b (verdict A ok (due - i - 1 + getD A (getD w i 0) 0) (i + 1) (drop (i + 1) w)) (Faulty (Stray i))
+      read-here b q =
+          r .3
+          ∙ verdict-at A ok w (due - i) i h (omega arith)
+          ∙ ap (λ (c : Bool). pick c (verdict A ok (due - i - 1 + getD A (getD w i 0) 0) (i + 1) (drop (i + 1) w)) (Faulty (Stray i))) q
+
+      pub read-stray : ok (getD w i 0) ≡ false → verdict A ok 1 0 w ≡ Faulty (Stray i)
+      read-stray q = read-here false q
+
+      pub read-next : ok (getD w i 0) ≡ true → getD A (getD w i 0) 0 ≤ 65535 → ReadTo A ok w (i + 1) (due + getD A (getD w i 0) 0)
+      read-next q few =
+          let same : due - i - 1 + getD A (getD w i 0) 0 ≡ due + getD A (getD w i 0) 0 - (i + 1) = omega arith in (
+            omega arith,
+            omega arith,
+            omega (arith, r .2),
+            read-here true q ∙ ap (λ (n : ℕ). verdict A ok n (i + 1) (drop (i + 1) w)) same,
+          )
+
 -- a symbol of the alphabet is allowed everywhere
 pub allowed-symbol : (k : Leaves) (A : List ℕ) (s : ℕ) → s < length A → allowed k A s ≡ true
 allowed-symbol Symbols A s h = lt-ltb s (length A) h
 allowed-symbol Blanks A s h = simp (lt-ltb s (length A) h)
+
+-- a stretch that has no number above r is one of symbols, if r is one
+pub symbols-more : (m : ℕ) (w : List ℕ) (n k r : ℕ) → SymbolsTo m w n → n + k ≤ length w
+    → ((j : ℕ) → j < length (take k (drop n w)) → getD (take k (drop n w)) j 0 ≤ r) → r < m → SymbolsTo m w (n + k)
+symbols-more m w n k r front within all small = (within, λ j h. at j h (decLt j n))
+  where
+    long : length (take k (drop n w)) ≡ k
+    long = length-take-le k (drop n w) (omega (arith, length-drop n w))
+
+    at : (j : ℕ) → j < n + k → Dec (j < n) → getD w j 0 < m
+    at j h (yes l) = front .1 j l
+    at j h (no l) =
+        let back : n + (j - n) ≡ j = omega arith in
+        let same : getD (take k (drop n w)) (j - n) 0 ≡ getD w j 0 =
+        getD-take k (drop n w) (j - n) 0 (omega arith) ∙ getD-drop n w (j - n) 0 ∙ ap (λ (i : ℕ). getD w i 0) back in
+        omega (arith, all (j - n) (omega (arith, long)), same)
 
 -- a length that is accepted is from 1 to the most
 pub sized-fits : (n m : ℕ) → sized n m ≡ Whole → (0 < n) × (n ≤ m)

@@ -1,5 +1,5 @@
 -- What reading a list from left to right finds, which numbers it may hold, and the checksum rule.
-use Prim.Native.Nat.{ℕ, zero, suc, _+_, _-_, _≤_, _<_}
+use Prim.Native.Nat.{ℕ, zero, suc, _+_, _-_, _*_, _≤_, _<_}
 use mathlib.Core.Path.{_≡_}
 use mathlib.Core.List.{List, [], _∷_}
 use mathlib.Core.Bool.{Bool, true, false}
@@ -29,11 +29,19 @@ verdict A ok (suc k) at [] = Faulty (Early at)
 verdict A ok zero at (s ∷ w) = Faulty (Extra at)
 verdict A ok (suc k) at (s ∷ w) = pick (ok s) (verdict A ok (k + getD A s 0) (at + 1) w) (Faulty (Stray at))
 
--- reading the number at position i of the list w, where `due` symbols are due in all, finds that d are due then, or a fault
-abbrev pub Reads : List ℕ → (ℕ → Bool) → List ℕ → ℕ → ℕ → Read → Type 0
-Reads A ok w i due (Due d) =
-    (i < d) × (d ≤ due + 65535) × (verdict A ok (due - i) i (drop i w) ≡ verdict A ok (d - (i + 1)) (i + 1) (drop (i + 1) w))
-Reads A ok w i due (Fault f) = verdict A ok (due - i) i (drop i w) ≡ Faulty f
+-- the list w is read up to position i, where `due` symbols are due in all: the verdict is what reading on from there gives
+abbrev pub ReadTo : List ℕ → (ℕ → Bool) → List ℕ → ℕ → ℕ → Type 0
+ReadTo A ok w i due =
+    (i ≤ length w) × (i ≤ due) × (due ≤ 1 + 65535 * i) × (verdict A ok 1 0 w ≡ verdict A ok (due - i) i (drop i w))
+
+-- reading the number at position i then finds that the list is read up to i + 1, or a fault
+abbrev pub Reads : List ℕ → (ℕ → Bool) → List ℕ → ℕ → Read → Type 0
+Reads A ok w i (Due d) = ReadTo A ok w (i + 1) d
+Reads A ok w i (Fault f) = verdict A ok 1 0 w ≡ Faulty f
+
+-- the n numbers at the front of a list are below m: they are symbols of an alphabet of m
+abbrev pub SymbolsTo : ℕ → List ℕ → ℕ → Type 0
+SymbolsTo m w n = (n ≤ length w) × ((k : ℕ) → k < n → getD w k 0 < m)
 
 -- a symbol of the alphabet
 abbrev pub symbol : List ℕ → ℕ → Bool

@@ -4,7 +4,7 @@ ghost use mathlib.Core.Bool.{Bool};
 ghost use mathlib.Core.List.{List, []};
 ghost use Prim.Native.Nat.{ℕ, _+_, _-_, _*_, _≤_, _<_, min};
 ghost use lib.ListN.{length, getD};
-ghost use Rattle.rows.specs.Row.{verdict, Reads, isVariable, allowed, sized, reading};
+ghost use Rattle.rows.specs.Row.{verdict, ReadTo, Reads, SymbolsTo, isVariable, allowed, sized, reading};
 ghost use Rattle.rows.specs.Refusals.{rowNumber, onRecordNumber, patternNumber, replacementNumber, faultPlace, number, place, aritiesFit, someLeaf, alphabet, sizes, symbols};
 
 // What is wrong with a list that should be a tree's prefix notation: it is empty, it is too long, a number may not stand
@@ -251,8 +251,8 @@ pub enum Read {
 
 // The number at i, where `due` symbols are due in all: one for the root, and as many as each symbol so far has children.
 fn read_at(arities: &[u16], row: &[u16], leaves: Leaves, i: usize, due: usize) -> Read
-    requires { ⌜ (i < length (now row)) × (i ≤ due) × (due ≤ 1 + 65535 * i) × (i ≤ 16384) ⌝ }
-    ensures { λ r. ⌜ Reads (now (arities .entry)) (allowed leaves (now (arities .entry))) (now (row .entry)) i due r ⌝ }
+    requires { ⌜ ReadTo (now arities) (allowed leaves (now arities)) (now row) i due × (i < length (now row)) × (length (now row) ≤ 16384) ⌝ }
+    ensures { λ r. ⌜ Reads (now (arities .entry)) (allowed leaves (now (arities .entry))) (now (row .entry)) i r ⌝ }
 {
     if due == i {
         return Read::Fault(Fault::Extra(i));
@@ -276,33 +276,87 @@ fn read_end(n: usize, due: usize) -> Verdict
     }
 }
 
-// Is it a tree's prefix notation, with these leaves? One pass. Two numbers a turn, so that the test whether the list goes
-// on is paid half as often.
+// How far a list is read: up to position `at`, where `due` symbols are due in all.
+pub struct Reached {
+    pub at: usize,
+    pub due: usize,
+}
+
+// Reads on to the end, number by number.
+fn read_on(arities: &[u16], row: &[u16], leaves: Leaves, from: Reached) -> Verdict
+    requires { ⌜ ReadTo (now arities) (allowed leaves (now arities)) (now row) (from .at) (from .due) × (length (now row) ≤ 16384) ⌝ }
+    ensures { λ r. ⌜ r ≡ verdict (now (arities .entry)) (allowed leaves (now (arities .entry))) 1 0 (now (row .entry)) ⌝ }
+{
+    let mut i = from.at;
+    let mut due = from.due;
+    while i < row.len() {
+        match read_at(arities, row, leaves, i, due) {
+            Read::Fault(f) => return Verdict::Faulty(f),
+            Read::Due(after) => {
+                due = after;
+                i += 1;
+            }
+        }
+    }
+    read_end(row.len(), due)
+}
+
+// A number that no number of the part is above.
+fn largest(part: &[u16]) -> u16
+    ensures { λ r. ⌜ ((k : ℕ) → k < length (now (part .entry)) → getD (now (part .entry)) k 0 ≤ r) ⌝ }
+{
+    let mut most: u16 = 0;
+    for k in 0..part.len() {
+        let s = part[k];
+        if most < s {
+            most = s;
+        }
+    }
+    most
+}
+
+// How many numbers at the front are symbols for sure: whole stretches of 64, up to the first that has another number. A
+// stretch is looked at without a way out of it, which the compiler turns into vector instructions.
+fn count_symbols(symbols: usize, row: &[u16]) -> usize
+    ensures { λ r. ⌜ SymbolsTo symbols (now (row .entry)) r ⌝ }
+{
+    let mut n = 0;
+    while n + 64 <= row.len() {
+        if symbols <= largest(&row[n..n + 64]) as usize {
+            return n;
+        }
+        n += 64;
+    }
+    n
+}
+
+// Reads at most the n numbers at the front, which are symbols, two a turn, and stops where nothing may be due any more.
+fn read_symbols(arities: &[u16], row: &[u16], n: usize) -> Reached
+    requires { ⌜ SymbolsTo (length (now arities)) (now row) n × (length (now row) ≤ 16384) ⌝ }
+    ensures { λ r. ⌜ ((leaves : Leaves) → ReadTo (now (arities .entry)) (allowed leaves (now (arities .entry))) (now (row .entry)) (r .at) (r .due)) ⌝ }
+{
+    let mut due: usize = 1;
+    let mut i = 0;
+    while i + 1 < n {
+        let between = due + arities[row[i] as usize] as usize;
+        if due == i || between == i + 1 {
+            return Reached { at: i, due };
+        }
+        due = between + arities[row[i + 1] as usize] as usize;
+        i += 2;
+    }
+    Reached { at: i, due }
+}
+
+// Is it a tree's prefix notation, with these leaves? The symbols at the front are read fast, without asking of each
+// whether it is one.
 pub fn check_row(arities: &[u16], row: &[u16], leaves: Leaves) -> Verdict
     requires { ⌜ length (now row) ≤ 16384 ⌝ }
     ensures { λ r. ⌜ r ≡ verdict (now (arities .entry)) (allowed leaves (now (arities .entry))) 1 0 (now (row .entry)) ⌝ }
 {
-    let mut due: usize = 1;
-    let mut i = 0;
-    while i + 1 < row.len() {
-        match read_at(arities, row, leaves, i, due) {
-            Read::Fault(f) => return Verdict::Faulty(f),
-            Read::Due(between) => match read_at(arities, row, leaves, i + 1, between) {
-                Read::Fault(f) => return Verdict::Faulty(f),
-                Read::Due(after) => {
-                    due = after;
-                    i += 2;
-                }
-            },
-        }
-    }
-    if i < row.len() {
-        return match read_at(arities, row, leaves, i, due) {
-            Read::Fault(f) => Verdict::Faulty(f),
-            Read::Due(after) => read_end(row.len(), after),
-        };
-    }
-    read_end(row.len(), due)
+    let n = count_symbols(arities.len(), row);
+    let front = read_symbols(arities, row, n);
+    read_on(arities, row, leaves, front)
 }
 
 // Refusals 7, 8 and 9: the row is one tree's.

@@ -3,12 +3,12 @@
 -- hands the same to its first node.
 -- Assumes nothing.
 use borrow.Author.Needs.{needs}
-use Prim.Native.Nat.{ℕ, _<_, _+_, _*_}
-use mathlib.Core.Path.{refl, sym, _∙_}
+use Prim.Native.Nat.{ℕ, _<_, _≤_, _+_, _-_, _*_}
+use mathlib.Core.Path.{_≡_, refl, sym, _∙_, subst}
 use native.Mathlib.Omega.{arith}
 use lib.ListN.{length}
 use Rattle.plain.specs.Plain.{Passes}
-use Rattle.plain.proofs.Trying.{tells-past, tells-miss, lent-within, pattern-some, rest-some, taken, lent-inside, passes-inside, misses-inside, shorter-inside, misses-plain, passes-blank, meetable, passes-met, misses-met, lent-first, lent-others, passes-others, misses-others, shorter-others, passes-none}
+use Rattle.plain.proofs.Trying.{tells-past, tells-miss, lent-within, pattern-some, rest-some, taken, lent-inside, passes-inside, misses-inside, shorter-inside, misses-plain, passes-blank, meetable, passes-met, misses-met, lent-next, passes-next, misses-next, passes-none}
 use borrow.Fn.Kinds.{In}
 use borrow.Fn.PlainCycle.{Measures, is, falls, and}
 use Rattle.plain.proofs.children.Reads as children
@@ -31,6 +31,14 @@ abbrev μ-children : Measures 5 children-kinds.ps ℕ
 abbrev μ-node : Measures 5 node-kinds.ps ℕ
 μ-node κs a = 2 * length (a .1 .0 .now)
 
+-- the loop over the children: what fits so far
+abbrev children-Inv-loop : children-lts.InvT-loop
+children-Inv-loop arities k pattern part rest marks₀ p₀ r₀ counter₀ marks p r counter =
+    (counter ≤ k) × Passes arities pattern part rest marks₀ counter p r marks
+
+abbrev children-μ-loop : children-lts.MeasureT-loop
+children-μ-loop arities k pattern part rest marks₀ p₀ r₀ counter₀ marks p r counter = k - counter
+
 -- at the measure t: what each is given, and what a call of it asks
 module _ (t : ℕ) where
   abbrev children-at : In 5 children-kinds.ps
@@ -47,106 +55,101 @@ module _ (t : ℕ) where
 
   -- the functions that each calls
   abbrev children-calls : children-lts.Claims
-  children-calls = (node-below, node.Post, children-below, children.Post)
+  children-calls = (node-below, node.Post)
 
   abbrev node-calls : node-lts.Claims
   node-calls = (same-reads.Asked, same-reads.Learnt, arity-of-reads.Asked, arity-of-reads.Learnt, children-below, children.Post, leaf-of-reads.Asked, leaf-of-reads.Learnt, tree-length-reads.Asked, tree-length-reads.Learnt, meet-reads.Asked, meet-reads.Learnt)
 
-  -- what the first tells
-  first-passes : (c : children-lts.After-first children-calls children-at children.Post)
-      → (let s = c .before .before .before .before .before .before .before .before .before .args in
-      Passes (s .arities .now) (s .pattern .now) (s .part .now) (s .rest .now) (s .marks .now) 1 (c .first .given .0 .0) (c .first .given .0 .1 .0) (c .before .before .node .last .1 .1 .1 .1 .0))
-  first-passes c = c .before .before .node .ensures .past _ _ (c .first .given .1)
+  -- in the loop's body: what the function was given, and what fits so far
+  abbrev Here : Type 0
+  Here = children-lts.In-loop children-calls children-at children.Post children-Inv-loop children-μ-loop
 
-  others-passes : (c : children-lts.After-others children-calls children-at children.Post)
-      → (let f = c .before .before .before .before .before .before .before in
-      let s = f .before .before .before .before .before .before .before .before .before .args in
-      Passes (s .arities .now) (s .pattern .now) (s .part .now) (s .rest .now) (s .marks .now) (s .k) (f .first .given .0 .0 + c .others .given .0 .0) (f .first .given .0 .1 .0 + c .others .given .0 .1 .0) (c .before .before .children .last .1 .1 .1 .1 .1 .0))
-  others-passes c =
-      let f = c .before .before .before .before .before .before .before in
-      let s = f .before .before .before .before .before .before .before .before .before in
-      passes-others _ _ _ _ _ _ (s .pre .1) (omega (arith, f .before .before .before .before .if1 .left)) _ _ _ (first-passes f) _ _ _
-      (c .before .before .children .ensures .past _ _ (c .others .given .1))
+  abbrev start : Here → children-lts.Start children-calls children-at children.Post children-Inv-loop children-μ-loop
+  start i = i .before .before .before .before .before .before
 
-  children-returns : children-lts.Need-returns children-calls children-at children.Post
-  children-returns c =
-      let s = c .before .before .before .before .before in
-      tells-past (passes-none _ _ _ _ _ _ (c .if1 .taken) (s .pre .1))
+  abbrev so-far : (i : Here)
+      → (let s = start i .args in let l = i .before .loop in
+      Passes (s .arities .now) (s .pattern .now) (s .part .now) (s .rest .now) (s .marks .now) (l .counter) (l .p) (l .r) (l .marks))
+  so-far i = i .before .loop .inv .1
 
-  children-node-requires : children-lts.Need-node-requires children-calls children-at children.Post
+  less : (i : Here) → i .before .loop .counter < start i .args .k
+  less i = omega (arith, i .loop-test .taken)
+
+  -- what the next node tells
+  next-passes : (c : children-lts.After-next children-calls children-at children.Post children-Inv-loop children-μ-loop)
+      → (let i = c .before .before .before .before .before .before in let s = start i .args in let l = i .before .loop in
+      Passes (s .arities .now) (s .pattern .now) (s .part .now) (s .rest .now) (s .marks .now) (l .counter + 1) (l .p + c .next .given .0 .0) (l .r + c .next .given .0 .1 .0) (c .before .before .node .last .1 .1 .1 .1 .0))
+  next-passes c =
+      let i = c .before .before .before .before .before .before in
+      passes-next _ _ _ _ _ _ (start i .pre .1) _ _ _ _ (less i) (so-far i) _ _ _ (c .before .before .node .ensures .past _ _ (c .next .given .1))
+
+  children-loop-holds : children-lts.Need-loop-holds children-calls children-at children.Post children-Inv-loop children-μ-loop
+  children-loop-holds c = (search needs, passes-none _ _ _ _ _ _ (c .before .before .before .before .pre .1))
+
+  children-mul-node : children-lts.Need-mul-node children-calls children-at children.Post children-Inv-loop children-μ-loop
+  children-mul-node c = omega (arith, taken (so-far c) .0, start c .good)
+
+  children-sub-node : children-lts.Need-sub-node children-calls children-at children.Post children-Inv-loop children-μ-loop
+  children-sub-node c = taken (so-far c) .0
+
+  children-part-node-start : children-lts.Need-part-node-start children-calls children-at children.Post children-Inv-loop children-μ-loop
+  children-part-node-start c = taken (so-far c) .0
+
+  children-part-node-end : children-lts.Need-part-node-end children-calls children-at children.Post children-Inv-loop children-μ-loop
+  children-part-node-end c = search needs
+
+  children-mul-node-2 : children-lts.Need-mul-node-2 children-calls children-at children.Post children-Inv-loop children-μ-loop
+  children-mul-node-2 c = omega (arith, taken (so-far (c .before)) .1, start (c .before) .good)
+
+  children-sub-node-2 : children-lts.Need-sub-node-2 children-calls children-at children.Post children-Inv-loop children-μ-loop
+  children-sub-node-2 c = taken (so-far (c .before)) .1
+
+  children-part-node-start-2 : children-lts.Need-part-node-start-2 children-calls children-at children.Post children-Inv-loop children-μ-loop
+  children-part-node-start-2 c = taken (so-far (c .before)) .1
+
+  children-part-node-end-2 : children-lts.Need-part-node-end-2 children-calls children-at children.Post children-Inv-loop children-μ-loop
+  children-part-node-end-2 c = search needs
+
+  children-node-requires : children-lts.Need-node-requires children-calls children-at children.Post children-Inv-loop children-μ-loop
   children-node-requires c κs =
-      let s = c .before .before .before .before .before .before in
-      (omega (arith, s .pre .0), lent-first _ _ _ _ _ _ (s .pre .1) (omega (arith, c .before .if1 .left)))
+      let i = c .before .before .before in
+      let g = lent-next _ _ _ _ _ _ (start i .pre .1) _ _ _ _ (less i) (so-far i) in
+      (omega (arith, start i .pre .0), g)
 
-  children-enum-known-first : children-lts.Need-enum-known-first children-calls children-at children.Post
-  children-enum-known-first c = search needs
+  children-enum-known-next : children-lts.Need-enum-known-next children-calls children-at children.Post children-Inv-loop children-μ-loop
+  children-enum-known-next c = search needs
 
-  children-enum-told : children-lts.Need-enum-told children-calls children-at children.Post
+  children-enum-told : children-lts.Need-enum-told children-calls children-at children.Post children-Inv-loop children-μ-loop
   children-enum-told c = search needs
 
-  children-returns-2 : children-lts.Need-returns-2 children-calls children-at children.Post
+  children-returns : children-lts.Need-returns children-calls children-at children.Post children-Inv-loop children-μ-loop
+  children-returns c =
+      let i = c .before .before .before .before .before .before in
+      tells-miss _ _ _ _ _ _ _ _ _ (c .enum-told .given .1)
+      (misses-next _ _ _ _ _ _ (start i .pre .1) _ _ _ _ (less i) (so-far i) _ (c .before .before .node .ensures .miss _ (c .enum-told .given .1)))
+
+  children-add-p : children-lts.Need-add-p children-calls children-at children.Post children-Inv-loop children-μ-loop
+  children-add-p c = omega (arith, taken (next-passes (c .before)) .0, start (c .before .before .before .before .before .before .before) .good)
+
+  children-add-r : children-lts.Need-add-r children-calls children-at children.Post children-Inv-loop children-μ-loop
+  children-add-r c = omega (arith, taken (next-passes (c .before)) .1, start (c .before .before .before .before .before .before .before) .good)
+
+  children-add-counter : children-lts.Need-add-counter children-calls children-at children.Post children-Inv-loop children-μ-loop
+  children-add-counter c = search needs
+
+  children-loop-less : children-lts.Need-loop-less children-calls children-at children.Post children-Inv-loop children-μ-loop
+  children-loop-less c = search needs
+
+  children-loop-again : children-lts.Need-loop-again children-calls children-at children.Post children-Inv-loop children-μ-loop
+  children-loop-again c =
+      (omega (arith, less (c .before .before .before .before .before .before .before)), next-passes (c .before))
+
+  children-returns-2 : children-lts.Need-returns-2 children-calls children-at children.Post children-Inv-loop children-μ-loop
   children-returns-2 c =
-      tells-miss _ _ _ _ _ _ _ _ _ (c .enum-told .given .1) (c .before .before .node .ensures .miss _ (c .enum-told .given .1))
-
-  children-sub-children : children-lts.Need-sub-children children-calls children-at children.Post
-  children-sub-children c = search needs
-
-  children-mul-children : children-lts.Need-mul-children children-calls children-at children.Post
-  children-mul-children c = omega (arith, taken (first-passes (c .before)) .0, c .before .before .before .before .before .before .before .before .before .before .good)
-
-  children-sub-children-2 : children-lts.Need-sub-children-2 children-calls children-at children.Post
-  children-sub-children-2 c = taken (first-passes (c .before)) .0
-
-  children-part-children-start : children-lts.Need-part-children-start children-calls children-at children.Post
-  children-part-children-start c = taken (first-passes (c .before)) .0
-
-  children-part-children-end : children-lts.Need-part-children-end children-calls children-at children.Post
-  children-part-children-end c = search needs
-
-  children-mul-children-2 : children-lts.Need-mul-children-2 children-calls children-at children.Post
-  children-mul-children-2 c = omega (arith, taken (first-passes (c .before .before)) .1, c .before .before .before .before .before .before .before .before .before .before .before .good)
-
-  children-sub-children-3 : children-lts.Need-sub-children-3 children-calls children-at children.Post
-  children-sub-children-3 c = taken (first-passes (c .before .before)) .1
-
-  children-part-children-start-2 : children-lts.Need-part-children-start-2 children-calls children-at children.Post
-  children-part-children-start-2 c = taken (first-passes (c .before .before)) .1
-
-  children-part-children-end-2 : children-lts.Need-part-children-end-2 children-calls children-at children.Post
-  children-part-children-end-2 c = search needs
-
-  children-children-requires : children-lts.Need-children-requires children-calls children-at children.Post
-  children-children-requires c κs =
-      let f = c .before .before .before .before in
-      let s = f .before .before .before .before .before .before .before .before .before in
-      let more : 0 < s .args .k = omega (arith, f .before .before .before .before .if1 .left) in
-      let g = first-passes f in (
-        omega (arith, s .pre .0, shorter-others _ _ _ _ _ _ (s .pre .1) more _ _ _ g),
-        lent-others _ _ _ _ _ _ (s .pre .1) more _ _ _ g,
-      )
-
-  children-enum-known-others : children-lts.Need-enum-known-others children-calls children-at children.Post
-  children-enum-known-others c = search needs
-
-  children-enum-told-2 : children-lts.Need-enum-told-2 children-calls children-at children.Post
-  children-enum-told-2 c = search needs
-
-  children-returns-3 : children-lts.Need-returns-3 children-calls children-at children.Post
-  children-returns-3 c =
-      let f = c .before .before .before .before .before .before .before in
-      let s = f .before .before .before .before .before .before .before .before .before in
-      tells-miss _ _ _ _ _ _ _ _ _ (c .enum-told2 .given .1)
-      (misses-others _ _ _ _ _ _ (s .pre .1) (omega (arith, f .before .before .before .before .if1 .left)) _ _ _ (first-passes f) _
-      (c .before .before .children .ensures .miss _ (c .enum-told2 .given .1)))
-
-  children-add-t16 : children-lts.Need-add-t16 children-calls children-at children.Post
-  children-add-t16 c = omega (arith, taken (others-passes (c .before)) .0, c .before .before .before .before .before .before .before .before .before .before .before .before .before .before .before .before .before .good)
-
-  children-add-t23 : children-lts.Need-add-t23 children-calls children-at children.Post
-  children-add-t23 c = omega (arith, taken (others-passes (c .before)) .1, c .before .before .before .before .before .before .before .before .before .before .before .before .before .before .before .before .before .good)
-
-  children-returns-4 : children-lts.Need-returns-4 children-calls children-at children.Post
-  children-returns-4 c = tells-past (others-passes (c .before))
+      let l = c .before .loop in
+      let s = c .before .before .before .before .before .before .args in
+      let all : l .counter ≡ s .k = omega (arith, l .inv .0, c .loop-test .left) in
+      tells-past (subst (λ (i : ℕ). Passes (s .arities .now) (s .pattern .now) (s .part .now) (s .rest .now) (s .marks .now) i (l .p) (l .r) (l .marks)) all (l .inv .1))
 
   -- what the children of the first node tell
   inside-passes : (c : node-lts.After-found node-calls node-at node.Post)
@@ -283,27 +286,27 @@ pub +children+node-spec : {M : Type 1} → statement M
 +children+node-spec =
     close μ-children μ-node
     (λ t. children-lts.spec (children-calls t) (children-at t) children.Post
-    (children-returns t)
+    children-Inv-loop
+    children-μ-loop
+    (children-loop-holds t)
+    (children-mul-node t)
+    (children-sub-node t)
+    (children-part-node-start t)
+    (children-part-node-end t)
+    (children-mul-node-2 t)
+    (children-sub-node-2 t)
+    (children-part-node-start-2 t)
+    (children-part-node-end-2 t)
     (children-node-requires t)
-    (children-enum-known-first t)
+    (children-enum-known-next t)
     (children-enum-told t)
-    (children-returns-2 t)
-    (children-sub-children t)
-    (children-mul-children t)
-    (children-sub-children-2 t)
-    (children-part-children-start t)
-    (children-part-children-end t)
-    (children-mul-children-2 t)
-    (children-sub-children-3 t)
-    (children-part-children-start-2 t)
-    (children-part-children-end-2 t)
-    (children-children-requires t)
-    (children-enum-known-others t)
-    (children-enum-told-2 t)
-    (children-returns-3 t)
-    (children-add-t16 t)
-    (children-add-t23 t)
-    (children-returns-4 t))
+    (children-returns t)
+    (children-add-p t)
+    (children-add-r t)
+    (children-add-counter t)
+    (children-loop-less t)
+    (children-loop-again t)
+    (children-returns-2 t))
     (λ t. node-lts.spec (node-calls t) (node-at t) node.Post
     (node-shared-slice-read-s t)
     (node-shared-slice-read-same t)

@@ -1,11 +1,10 @@
 -- `rows::read_at` meets its contract. The number that stands at i decides how the verdict goes on.
 -- Assumes nothing.
-use Prim.Native.Nat.{ℕ, _-_, _+_}
-use mathlib.Core.Path.{_≡_, sym, ap, _∙_}
+use mathlib.Core.Path.{_≡_, sym, _∙_, subst}
+use Prim.Native.Nat.{ℕ, _+_}
 use native.Mathlib.Omega.{arith}
-use lib.ListN.{drop}
-use Rattle.rows.specs.Row.{verdict, allowed}
-use Rattle.rows.proofs.Scan.{verdict-at, verdict-extra}
+use Rattle.rows.specs.Row.{ReadTo, allowed}
+use Rattle.rows.proofs.Scan.{read-extra, read-stray, read-next}
 use borrow.Author.Needs.{needs}
 use Rattle.rows.proofs.read_at.Statement.{statement}
 use Rattle.rows.proofs.read_at.Tie as tie
@@ -13,10 +12,7 @@ use Rattle.rows.proofs.read_at.Tie as tie
 returns : tie.Need-returns
 returns c =
     let s = c .before .before .before in
-    let a = s .args in
-    let none : a .due - a .i ≡ 0 = omega (arith, c .if1 .taken) in
-    ap (λ (n : ℕ). verdict (a .arities .now) (allowed (a .leaves) (a .arities .now)) n (a .i) (drop (a .i) (a .row .now))) none
-    ∙ verdict-extra (a .arities .now) (allowed (a .leaves) (a .arities .now)) (a .row .now) (a .i) (s .pre .0)
+    read-extra _ _ _ _ _ (s .pre .0) (s .pre .1) (c .if1 .taken)
 
 mul-s : tie.Need-mul-s
 mul-s c = search needs
@@ -40,22 +36,13 @@ returns-2 : tie.Need-returns-2
 returns-2 c =
     let s = c .before .before .before .before .before .before .before in
     let a = s .args in
-    let more = c .before .before .before .before .if1 .left in (
-      omega (arith, s .pre .1, more),
-      omega (arith, c .arity-of .ensures),
-      verdict-at (a .arities .now) (allowed (a .leaves) (a .arities .now)) (a .row .now) (a .due - a .i) (a .i) (s .pre .0) (omega (arith, s .pre .1, more))
-          ∙ simp (sym (c .before .before .allows .ensures) ∙ c .before .if2 .taken)
-          (ap (λ (n : ℕ). verdict (a .arities .now) (allowed (a .leaves) (a .arities .now)) n (a .i + 1) (drop (a .i + 1) (a .row .now)))
-          (omega (arith, s .pre .1, more, c .arity-of .ensures))),
-    )
+    let next = read-next _ _ _ _ _ (s .pre .0) (s .pre .1) (omega (arith, s .pre .0 .1, c .before .before .before .before .if1 .left)) (sym (c .before .before .allows .ensures) ∙ c .before .if2 .taken) (omega (arith, c .arity-of .ensures)) in
+    subst (λ (n : ℕ). ReadTo (a .arities .now) (allowed (a .leaves) (a .arities .now)) (a .row .now) (a .i + 1) (a .due + n)) (sym (c .arity-of .ensures)) next
 
 returns-3 : tie.Need-returns-3
 returns-3 c =
     let s = c .before .before .before .before .before .before in
-    let a = s .args in
-    let more = c .before .before .before .if1 .left in
-    verdict-at (a .arities .now) (allowed (a .leaves) (a .arities .now)) (a .row .now) (a .due - a .i) (a .i) (s .pre .0) (omega (arith, s .pre .1, more))
-    ∙ simp (sym (c .before .allows .ensures) ∙ c .if2 .left)
+    read-stray _ _ _ _ _ (s .pre .0) (s .pre .1) (omega (arith, s .pre .0 .1, c .before .before .before .if1 .left)) (sym (c .before .allows .ensures) ∙ c .if2 .left)
 
 pub read-at-spec : {M : Type 1} → statement M
 read-at-spec =
