@@ -11,14 +11,14 @@ use lib.Dec.{eqb}
 use lib.ListN.{getD, length, drop, set, drop-of-length-le, List·getD-eq-default}
 use lib.Seq.{drop-drop, drop-at}
 use Rattle.rows.specs.Tree.{Forest, size, count, prefix}
-use Rattle.rows.specs.Parse.{first, rest, parse}
+use Rattle.rows.specs.Parse.{first, rest, parse, behind}
 use Rattle.rows.specs.Row.{pick, allowed}
 use Rattle.rows.specs.declared.Leaves.the-variants.{Blanks, Symbols}
 use Rattle.rows.proofs.Tree.{split, prefix-beside, length-prefix, count-rest, ranked-rest}
 use Rattle.rows.proofs.Parse.{prefix-parse, parse-prefix}
 use Rattle.rows.proofs.Accept.{whole-drop, ranked-parse, count-parse}
 use Rattle.rows.proofs.Scan.{drop-more}
-use Rattle.rows.proofs.Behind.{behind, count-behind, enough-behind}
+use Rattle.rows.proofs.Behind.{count-behind, enough-behind}
 use Rattle.rows.proofs.Entry.{entry-first, behind-some}
 use Rattle.tables.proofs.Given.{right-entry}
 use Rattle.patterns.specs.Pattern.{leaf}

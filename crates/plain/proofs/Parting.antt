@@ -7,13 +7,12 @@ use mathlib.Core.List.{List, [], append-nil}
 use native.Mathlib.Omega.{arith}
 use lib.ListN.{length, getD, drop, drop-of-length-le}
 use Rattle.rows.specs.Tree.{Forest, Forest.none, Forest.grow, Tree, single, size, count, prefix, ends, Ranked, subtreeAt}
-use Rattle.rows.specs.Parse.{first, parse, treeOf, table}
+use Rattle.rows.specs.Parse.{first, parse, treeOf, table, behind}
 use Rattle.rows.specs.Row.{symbol, allowed}
 use Rattle.rows.specs.declared.Leaves.the-variants.{Blanks}
 use Rattle.rows.proofs.Tree.{ranked-first}
 use Rattle.rows.proofs.Parse.{prefix-parse, size-parse}
 use Rattle.rows.proofs.Accept.{count-parse, ranked-parse}
-use Rattle.rows.proofs.Behind.{behind}
 use Rattle.rows.proofs.Entry.{behind-some, drop-table}
 use Rattle.rows.proofs.Subtrees.{subtree-first}
 use Rattle.patterns.specs.Pattern.{Matches}

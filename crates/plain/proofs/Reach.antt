@@ -8,10 +8,10 @@ use native.Mathlib.Omega.{arith}
 use lib.Dec.{ltb→lt}
 use lib.ListN.{length, getD, drop, length-drop}
 use Rattle.rows.specs.Tree.{Forest, size}
-use Rattle.rows.specs.Parse.{first, over, parse}
+use Rattle.rows.specs.Parse.{first, over, parse, behind}
 use Rattle.rows.specs.Row.{symbol}
 use Rattle.rows.proofs.Scan.{drop-more}
-use Rattle.rows.proofs.Behind.{behind, behind-over}
+use Rattle.rows.proofs.Behind.{behind-over}
 use Rattle.plain.specs.Plain.{Spells}
 use Rattle.plain.proofs.Spelling.{size-add, spells-some, spells-next}
 

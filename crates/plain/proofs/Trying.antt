@@ -11,10 +11,9 @@ use lib.Dec.{eqb}
 use lib.ListN.{length, getD, drop, set, length-drop, List·getD-eq-default}
 use lib.Seq.{getD-drop, drop-drop}
 use Rattle.rows.specs.Tree.{size}
-use Rattle.rows.specs.Parse.{first, parse, table}
+use Rattle.rows.specs.Parse.{first, parse, table, behind}
 use Rattle.rows.specs.Row.{pick, symbol, allowed}
 use Rattle.rows.specs.declared.Leaves.the-variants.{Blanks}
-use Rattle.rows.proofs.Behind.{behind}
 use Rattle.rows.proofs.Entry.{entry-first}
 use Rattle.patterns.specs.Pattern.{leaf}
 use Rattle.patterns.specs.Walk.{sameSymbol, agreeing, Outcome, Outcome.misses, Outcome.reaches, meets, steps, onward, walk, MarksIn, Meetable, Done}

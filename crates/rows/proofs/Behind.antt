@@ -7,7 +7,7 @@ use mathlib.Core.Bool.{Bool}
 use native.Mathlib.Omega.{arith}
 use lib.ListN.{length, getD, drop, length-drop}
 use Rattle.rows.specs.Tree.{Forest, count, size, ends}
-use Rattle.rows.specs.Parse.{first, rest, over, parse}
+use Rattle.rows.specs.Parse.{first, rest, over, parse, behind}
 use Rattle.rows.specs.Row.{verdict}
 use Rattle.rows.specs.declared.Verdict.the-variants.{Whole}
 use Rattle.rows.proofs.Tree.{ends-beside, split, count-rest}
@@ -24,10 +24,6 @@ ends-over b s a g =
     (ap (λ (n : ℕ). ends (b + 1) (first a g) ++ ends n (rest a g)) same
     ∙ sym (ends-beside (b + 1) (first a g) (rest a g))
     ∙ ap (ends (b + 1)) (split a g))
-
--- the forest that a list spells from position p on
-unfoldable pub behind : List ℕ → List ℕ → ℕ → Forest
-behind A w p = parse A (drop p w)
 
 pub size-behind : (A w : List ℕ) (p : ℕ) → size (behind A w p) ≡ length w - p
 unfolding behind

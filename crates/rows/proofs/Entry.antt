@@ -12,14 +12,14 @@ use native.Mathlib.Omega.{arith}
 use lib.ListN.{length, getD, take, drop, length-drop}
 use lib.Seq.{getD-drop, drop-drop, take-at, take-add, length-take-le}
 use Rattle.rows.specs.Tree.{Forest, Forest.none, Forest.grow, IsRow, count, size, prefix, Ranked, ends}
-use Rattle.rows.specs.Parse.{first, over, parse, table}
+use Rattle.rows.specs.Parse.{first, over, parse, table, behind}
 use Rattle.rows.specs.Row.{verdict}
 use Rattle.rows.specs.declared.Verdict.the-variants.{Whole}
 use Rattle.rows.proofs.Tree.{length-ends, length-prefix, size-split}
 use Rattle.rows.proofs.Parse.{prefix-parse, size-parse, no-longer}
 use Rattle.rows.proofs.Accept.{whole-drop, ranked-parse}
 use Rattle.rows.proofs.Scan.{drop-more}
-use Rattle.rows.proofs.Behind.{behind, ends-behind, size-behind}
+use Rattle.rows.proofs.Behind.{ends-behind, size-behind}
 
 pub length-table : (A w : List ℕ) → length (table A w) ≡ length w
 unfolding table

@@ -9,11 +9,10 @@ use native.Mathlib.Omega.{arith}
 use lib.ListN.{length, getD, take, drop, length-append}
 use lib.Seq.{drop-drop, getD-drop, take-at}
 use Rattle.rows.specs.Tree.{Forest, Forest.none, Forest.grow, Tree, single, count, size, prefix, subtrees, subtreeAt}
-use Rattle.rows.specs.Parse.{first, rest, over, parse, table}
+use Rattle.rows.specs.Parse.{first, rest, over, parse, table, behind}
 use Rattle.rows.proofs.Tree.{beside, split, length-prefix}
 use Rattle.rows.proofs.Parse.{prefix-parse}
 use Rattle.rows.proofs.Scan.{drop-more}
-use Rattle.rows.proofs.Behind.{behind}
 use Rattle.rows.proofs.Entry.{behind-some, entry-first}
 
 pub length-subtrees : (g : Forest) → length (subtrees g) ≡ size g

@@ -1,7 +1,7 @@
 -- The forest that a list of symbols spells; the tree of a row, and its table.
 use Prim.Native.Nat.{ℕ, zero, suc}
 use mathlib.Core.List.{List, [], _∷_}
-use lib.ListN.{getD}
+use lib.ListN.{getD, drop}
 use Rattle.rows.specs.Tree.{Forest, Forest.none, Forest.grow, Tree, ends, subtreeAt}
 
 -- the first k trees of a forest, and the others
@@ -25,6 +25,10 @@ over s a g = grow s (first a g) (rest a g)
 unfoldable pub parse : List ℕ → List ℕ → Forest
 parse A [] = none
 parse A (s ∷ w) = over s (getD A s 0) (parse A w)
+
+-- the forest that a list spells from position p on
+unfoldable pub behind : List ℕ → List ℕ → ℕ → Forest
+behind A w p = parse A (drop p w)
 
 -- the tree of a row: the first that the list spells
 abbrev pub treeOf : List ℕ → List ℕ → Tree

@@ -8,7 +8,7 @@ use native.Mathlib.Omega.{arith}
 use lib.ListN.{length, getD, drop, length-drop}
 use lib.Seq.{getD-drop}
 use Rattle.rows.specs.Tree.{Forest.none, Tree, subtreeAt, subtrees}
-use Rattle.rows.specs.Parse.{parse, treeOf}
+use Rattle.rows.specs.Parse.{parse, treeOf, behind}
 use Rattle.rows.specs.Row.{Accepted, symbol, sized, verdict, allowed, reading}
 use Rattle.rows.specs.Refusals.{_then_, alphabetSize, aritiesFit, someLeaf, alphabet, asRow, pattern, position}
 use Rattle.rows.specs.declared.Leaves.the-variants.{Symbols, Blanks}
@@ -16,7 +16,6 @@ use Rattle.rows.specs.declared.Verdict.the-variants.{Whole}
 use Rattle.rows.specs.declared.Check.the-variants.{Fine}
 use Rattle.rows.proofs.Scan.{sized-fits}
 use Rattle.rows.proofs.Accept.{ranked-parse}
-use Rattle.rows.proofs.Behind.{behind}
 use Rattle.rows.proofs.Entry.{behind-some}
 use Rattle.rows.proofs.Subtrees.{drop-subtrees}
 use Rattle.tables.proofs.Given.{both-fine, row-fine}

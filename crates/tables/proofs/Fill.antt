@@ -9,11 +9,11 @@ use native.Mathlib.Omega.{arith}
 use lib.ListN.{length, getD, take, drop, set, take-append-drop}
 use lib.Seq.{set-at, take-suc, append-snoc, length-take-le, drop-length}
 use Rattle.rows.specs.Tree.{size, ends}
-use Rattle.rows.specs.Parse.{first, parse}
+use Rattle.rows.specs.Parse.{first, parse, behind}
 use Rattle.rows.specs.Buffers.{written}
 use Rattle.rows.proofs.Tree.{length-ends}
 use Rattle.rows.proofs.Parse.{size-parse}
-use Rattle.rows.proofs.Behind.{behind, ends-behind}
+use Rattle.rows.proofs.Behind.{ends-behind}
 
 -- a table into which the ends of the row w, which stands from position b on, are filled from the row's place p to its end
 unfoldable pub partly : List ℕ → List ℕ → List ℕ → ℕ → ℕ → List ℕ

@@ -10,7 +10,7 @@ use lib.Dec.{T, ltb, eqb, ltb→lt, lt→ltb}
 use lib.ListN.{length, getD, drop, set}
 use lib.Seq.{drop-length}
 use Rattle.rows.specs.Tree.{Forest, count, size, prefix, ends, Ranked}
-use Rattle.rows.specs.Parse.{first, over, parse, table}
+use Rattle.rows.specs.Parse.{first, over, parse, table, behind}
 use Rattle.rows.specs.Row.{pick, Accepted, verdict, allowed}
 use Rattle.rows.specs.Refusals.{asRow, symbols, differs, fresh}
 use Rattle.rows.specs.declared.Leaves.the-variants.{Symbols}
@@ -21,23 +21,12 @@ use Rattle.rows.proofs.Tree.{count-first, ranked-first, ranked-rest}
 use Rattle.rows.proofs.Parse.{prefix-parse}
 use Rattle.rows.proofs.Scan.{drop-more}
 use Rattle.rows.proofs.Accept.{enough, count-parse, lone, whole-of-row}
-use Rattle.rows.proofs.Behind.{behind, behind-over, enough-behind, ends-behind}
+use Rattle.rows.proofs.Behind.{behind-over, enough-behind, ends-behind}
 use Rattle.tables.specs.Given.{Sized, Sees}
 use Rattle.tables.specs.declared.Seen.the-variants.{Tree}
 use Rattle.tables.proofs.Given.{row-fine}
-use Rattle.tables.proofs.Standing.{Standing, standing-none, Turn, turn-end, turn-count, turn-standing}
-
--- what is refused where the first stale entry of a row of n symbols stands at k, nothing where k is past the row
-abbrev pub staleFrom : ℕ → ℕ → Check
-staleFrom n k = pick (ltb k n) (Refused (Stale k)) Fine
-
--- at place p: the row is read from there on, `trees` stand there side by side, the list l holds their ends, and of the entries
--- from there on the first that is not the row's stands at `stale`
-pub record Passed (A w t l : List ℕ) (trees stale p : ℕ) : Type 0 where
-  pub ranked : Ranked A (allowed Symbols A) (behind A w p)
-  pub counted : trees ≡ count (behind A w p)
-  pub standing : Standing l p (behind A w p)
-  pub told : differs p (ends p (behind A w p)) (drop p t) ≡ staleFrom (length w) stale
+use Rattle.tables.specs.Beside.{Standing, staleFrom, Passed}
+use Rattle.tables.proofs.Standing.{standing-none, Turn, turn-end, turn-count, turn-standing}
 
 -- nothing is read yet
 pub passed-none : (A w t l : List ℕ) → Passed A w t l 0 (length w) (length w)

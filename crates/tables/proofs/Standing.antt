@@ -8,14 +8,10 @@ use native.Mathlib.Omega.{arith}
 use lib.ListN.{length, getD, set}
 use lib.Seq.{getD-set-same, getD-set-other, drop-length}
 use Rattle.rows.specs.Tree.{Forest, Forest.none, Forest.grow, count, size}
-use Rattle.rows.specs.Parse.{first, rest, over, parse}
+use Rattle.rows.specs.Parse.{first, rest, over, parse, behind}
 use Rattle.rows.proofs.Tree.{count-rest, count-size, size-split}
-use Rattle.rows.proofs.Behind.{behind, behind-over, size-behind, count-behind}
-
--- the list holds the ends of the trees of a forest that starts at b: at place k that of the tree with k trees to its right
-unfoldable pub Standing : List ℕ → ℕ → Forest → Type 0
-Standing l b none = Unit {0}
-Standing l b (grow s cs f) = (getD l (count f) 0 ≡ b + size cs + 1) × Standing l (b + size cs + 1) f
+use Rattle.rows.proofs.Behind.{behind-over, size-behind, count-behind}
+use Rattle.tables.specs.Beside.{Standing}
 
 -- what is written past them leaves them
 standing-set : (l : List ℕ) (b : ℕ) (g : Forest) (k x : ℕ) → count g ≤ k → Standing l b g → Standing (set l k x) b g

@@ -1,6 +1,7 @@
 // The table of a row, filled and checked.
 ghost use mathlib.Core.Path.{_≡_};
-ghost use Prim.Native.Nat.{_≤_};
+ghost use mathlib.Core.List.{List};
+ghost use Prim.Native.Nat.{ℕ, _+_, _≤_, _<_};
 ghost use lib.Dec.{eqb};
 ghost use lib.ListN.{length};
 ghost use Rattle.rows.specs.Tree.{ends};
@@ -9,6 +10,7 @@ ghost use Rattle.rows.specs.Row.{pick};
 ghost use Rattle.rows.specs.Buffers.{written};
 ghost use Rattle.rows.specs.Refusals.{_then_, symbols, fresh, kept, given};
 ghost use Rattle.tables.specs.Given.{Sized, Fillable, Sees};
+ghost use Rattle.tables.specs.Beside.{Passed, Compares};
 use rows::Check;
 use rows::Refusal;
 
@@ -72,8 +74,54 @@ fn first_stale(p: usize, x: u16, e: u16, later: usize) -> usize
     if x == e { later } else { p }
 }
 
-// From right to left. `standing` holds the ends of the trees that stand side by side behind p, the last tree's first; they
-// come from the row alone, so that a wrong entry leads nowhere.
+// What a symbol and its entry show, read from right to left: the row is no tree's; or how many trees stand side by side from
+// there on, and where the first entry stands that is not the row's.
+pub enum Compared {
+    NoTree,
+    To(usize, usize),
+}
+
+// The symbol at p and its entry, where `trees` stand side by side behind p, and `stale` is the first stale entry there.
+// `standing` holds the ends of those trees, the last tree's first; they come from the row alone, so that a wrong entry leads
+// nowhere.
+fn compare_at(
+    arities: &[u16],
+    row: &[u16],
+    table: &[u16],
+    standing: &mut [u16],
+    p: usize,
+    trees: usize,
+    stale: usize,
+) -> Compared
+    requires { ⌜ Sized (now row) (now table) × (length (now row) ≤ length (now standing)) × (p < length (now row)) ⌝ }
+    requires { ⌜ Passed (now arities) (now row) (now table) (now standing) trees stale (p + 1) ⌝ }
+    ensures { λ r. ⌜ Compares (now (arities .entry)) (now (row .entry)) (now (table .entry)) p (now (standing .exit)) r ⌝ }
+{
+    standing[trees] = (p + 1) as u16;
+    let s = row[p] as usize;
+    if arities.len() <= s {
+        return Compared::NoTree;
+    }
+    let a = arities[s] as usize;
+    if trees < a {
+        return Compared::NoTree;
+    }
+    let found = first_stale(p, table[p], standing[trees - a], stale);
+    Compared::To(trees - a + 1, found)
+}
+
+// What is seen once row and table are read from their start on.
+fn read_whole(trees: usize, stale: usize) -> Seen
+    ensures { λ r. ⌜ ((A w t l : List ℕ) → Passed A w t l trees stale 0 → Sees A w t r) ⌝ }
+{
+    if trees == 1 {
+        Seen::Tree(stale)
+    } else {
+        Seen::NoTree
+    }
+}
+
+// From right to left, two symbols a turn, so that what a turn costs by itself is paid half as often.
 fn compare_beside(arities: &[u16], row: &[u16], table: &[u16], standing: &mut [u16]) -> Seen
     requires { ⌜ Sized (now row) (now table) ⌝ }
     requires { ⌜ length (now row) ≤ length (now standing) ⌝ }
@@ -82,26 +130,27 @@ fn compare_beside(arities: &[u16], row: &[u16], table: &[u16], standing: &mut [u
     let mut trees: usize = 0;
     let mut stale = row.len();
     let mut p = row.len();
-    while 0 < p {
-        standing[trees] = p as u16;
-        p -= 1;
-        let s = row[p] as usize;
-        if arities.len() <= s {
+    while 1 < p {
+        let right = compare_at(arities, row, table, standing, p - 1, trees, stale);
+        let Compared::To(between, later) = right else {
             return Seen::NoTree;
-        }
-        let a = arities[s] as usize;
-        if trees < a {
+        };
+        let left = compare_at(arities, row, table, standing, p - 2, between, later);
+        let Compared::To(more, first) = left else {
             return Seen::NoTree;
-        }
-        trees -= a;
-        stale = first_stale(p, table[p], standing[trees], stale);
-        trees += 1;
+        };
+        trees = more;
+        stale = first;
+        p -= 2;
     }
-    if trees == 1 {
-        Seen::Tree(stale)
-    } else {
-        Seen::NoTree
+    if p == 1 {
+        let last = compare_at(arities, row, table, standing, 0, trees, stale);
+        let Compared::To(more, first) = last else {
+            return Seen::NoTree;
+        };
+        return read_whole(more, first);
     }
+    read_whole(trees, stale)
 }
 
 // Is the row one tree's, and where is the first entry of the table that is not the row's?

@@ -1,164 +1,177 @@
 -- `tables::compare_beside` meets its contract. The loop's invariant: row and table are read from p on (`Passed`).
 -- Assumes nothing.
-use Prim.Native.Nat.{ℕ, _≤_, _<_, _-_, _+_}
-use mathlib.Core.Path.{_≡_, refl, sym, ap, _∙_, subst}
+use Prim.Native.Nat.{ℕ, _≤_, _+_, _-_}
+use mathlib.Core.Path.{_≡_, refl, subst}
 use mathlib.Core.List.{List}
-use lib.Dec.{eqb}
-use lib.ListN.{length, getD, set, length-set}
-use Rattle.rows.specs.Row.{pick}
 use native.Mathlib.Omega.{arith}
-use Rattle.tables.proofs.Pass.{Passed, passed-none, stop-stray, stop-few, passed-more, stop-count, passed-all}
+use lib.ListN.{length}
+use Rattle.tables.specs.Beside.{Passed, Compares}
+use Rattle.tables.proofs.Pass.{passed-none}
 use borrow.Author.Needs.{needs}
 use Rattle.tables.proofs.compare_beside.Statement.{statement}
 use Rattle.tables.proofs.compare_beside.Tie as tie
 
 abbrev Inv-loop : tie.InvT-loop
 Inv-loop arities row table standing₀ trees₀ stale₀ p₀ standing trees stale p =
-    (p ≤ length row)
-    × (length standing ≡ length standing₀)
-    × (trees + p ≤ length row)
-    × Passed arities row table standing trees stale p
+    (p ≤ length row) × (length standing ≡ length standing₀) × Passed arities row table standing trees stale p
 
 abbrev μ-loop : tie.MeasureT-loop
 μ-loop arities row table standing₀ trees₀ stale₀ p₀ standing trees stale p = p
 
--- in the body: the place, and the parameters at entry
+-- in the body: what the function was given
 abbrev Here : Type 0
 Here = tie.In-loop Inv-loop μ-loop
 
-abbrev q : Here → ℕ
-q i = i .before .loop .p - 1
+abbrev start : Here → tie.Start Inv-loop μ-loop
+start i = i .before .before .before .before .before .before
 
 abbrev A : Here → List ℕ
-A i = i .before .before .before .before .before .before .args .arities .now
+A i = start i .args .arities .now
 
 abbrev W : Here → List ℕ
-W i = i .before .before .before .before .before .before .args .row .now
+W i = start i .args .row .now
 
 abbrev T : Here → List ℕ
-T i = i .before .before .before .before .before .before .args .table .now
+T i = start i .args .table .now
 
-up : (i : Here) → i .before .loop .p ≡ q i + 1
-up i = omega (arith, i .loop-test .taken)
+-- what the right one of two symbols shows, and then the left one
+right-passes : (x : tie.After-right Inv-loop μ-loop)
+    → (let i = x .before .before .before .before .before .before in
+    Passed (A i) (W i) (T i) (x .before .before .before .before .compare-at .last .1 .1 .1 .0) (x .right .given .0 .0) (x .right .given .0 .1 .0) (i .before .loop .p - 1))
+right-passes x =
+    let i = x .before .before .before .before .before .before in
+    subst (Compares (A i) (W i) (T i) (i .before .loop .p - 1) (x .before .before .before .before .compare-at .last .1 .1 .1 .0)) (x .right .given .1) (x .before .before .before .before .compare-at .ensures)
 
-below : (i : Here) → q i < length (W i)
-below i = omega (arith, i .loop-test .taken, i .before .loop .inv .0)
-
-passed : (i : Here) → Passed (A i) (W i) (T i) (i .before .loop .standing) (i .before .loop .trees) (i .before .loop .stale) (q i + 1)
-passed i = subst (Passed (A i) (W i) (T i) (i .before .loop .standing) (i .before .loop .trees) (i .before .loop .stale)) (up i) (i .before .loop .inv .3)
+left-passes : (y : tie.After-left Inv-loop μ-loop)
+    → (let i = y .before .before .before .before .before .before .before .before .before .before .before .before .before in
+    Passed (A i) (W i) (T i) (y .before .before .before .before .compare-at2 .last .1 .1 .1 .0) (y .left .given .0 .0) (y .left .given .0 .1 .0) (i .before .loop .p - 2))
+left-passes y =
+    let i = y .before .before .before .before .before .before .before .before .before .before .before .before .before in
+    subst (Compares (A i) (W i) (T i) (i .before .loop .p - 2) (y .before .before .before .before .compare-at2 .last .1 .1 .1 .0)) (y .left .given .1) (y .before .before .before .before .compare-at2 .ensures)
 
 loop-holds : tie.Need-loop-holds Inv-loop μ-loop
-loop-holds c =
-    let a = c .before .before .before .before .args in
-    (search needs, refl, search needs, passed-none (a .arities .now) (a .row .now) (a .table .now) (a .standing .now))
+loop-holds c = let a = c .before .before .before .before .args in (search needs, refl, passed-none (a .arities .now) (a .row .now) (a .table .now) (a .standing .now))
 
-cast-standing : tie.Need-cast-standing Inv-loop μ-loop
-cast-standing c = search needs
+sub-compare-at : tie.Need-sub-compare-at Inv-loop μ-loop
+sub-compare-at c = search needs
 
-mul-standing : tie.Need-mul-standing Inv-loop μ-loop
-mul-standing c = search needs
+compare-at-requires : tie.Need-compare-at-requires Inv-loop μ-loop
+compare-at-requires c κs =
+    let i = c .before in
+    let l = i .before .loop in
+    let s = start i in
+    let up : l .p ≡ l .p - 1 + 1 = omega (arith, i .loop-test .taken) in (
+      (s .pre .0, omega (arith, l .inv .1, s .pre .1), omega (arith, i .loop-test .taken, l .inv .0)),
+      subst (Passed (A i) (W i) (T i) (l .standing) (l .trees) (l .stale)) up (l .inv .2),
+    )
 
-slice-write-standing : tie.Need-slice-write-standing Inv-loop μ-loop
-slice-write-standing c = search needs
+enum-known-right : tie.Need-enum-known-right Inv-loop μ-loop
+enum-known-right c = search needs
 
-sub-p : tie.Need-sub-p Inv-loop μ-loop
-sub-p c = search needs
-
-mul-s : tie.Need-mul-s Inv-loop μ-loop
-mul-s c = search needs
-
-shared-slice-read-s : tie.Need-shared-slice-read-s Inv-loop μ-loop
-shared-slice-read-s c = search needs
-
-cast-s : tie.Need-cast-s Inv-loop μ-loop
-cast-s c = omega (arith, c .shared-slice-known4 .given (q (c .before)))
+enum-told : tie.Need-enum-told Inv-loop μ-loop
+enum-told c = search needs
 
 same-length : tie.Need-same-length Inv-loop μ-loop
 same-length c = search needs
 
 returns : tie.Need-returns Inv-loop μ-loop
-returns c = let i = c .before .before in stop-stray (A i) (W i) (q i) (below i) (c .if1 .taken)
+returns c =
+    let i = c .before .before .before .before .before .before in
+    subst (Compares (A i) (W i) (T i) (i .before .loop .p - 1) (c .before .before .before .before .compare-at .last .1 .1 .1 .0)) (c .enum-told .given .1) (c .before .before .before .before .compare-at .ensures)
 
-mul-a : tie.Need-mul-a Inv-loop μ-loop
-mul-a c = search needs
+sub-compare-at-2 : tie.Need-sub-compare-at-2 Inv-loop μ-loop
+sub-compare-at-2 c = search needs
 
-shared-slice-read-a : tie.Need-shared-slice-read-a Inv-loop μ-loop
-shared-slice-read-a c = search needs
+compare-at-requires-2 : tie.Need-compare-at-requires-2 Inv-loop μ-loop
+compare-at-requires-2 c κs =
+    let x = c .before .before in
+    let i = x .before .before .before .before .before .before in
+    let l = i .before .loop in
+    let s = start i in
+    let down : l .p - 1 ≡ l .p - 2 + 1 = omega (arith, i .loop-test .taken) in (
+      (s .pre .0, omega (arith, x .before .before .before .before .compare-at .kept .1 .1 .1 .0, l .inv .1, s .pre .1), omega (arith, i .loop-test .taken, l .inv .0)),
+      subst (Passed (A i) (W i) (T i) (x .before .before .before .before .compare-at .last .1 .1 .1 .0) (x .right .given .0 .0) (x .right .given .0 .1 .0)) down (right-passes x),
+    )
 
-cast-a : tie.Need-cast-a Inv-loop μ-loop
-cast-a c = omega (arith, c .shared-slice-known5 .given (getD (W (c .before .before .before)) (q (c .before .before .before)) 0))
+enum-known-left : tie.Need-enum-known-left Inv-loop μ-loop
+enum-known-left c = search needs
+
+enum-told-2 : tie.Need-enum-told-2 Inv-loop μ-loop
+enum-told-2 c = search needs
 
 same-length-2 : tie.Need-same-length-2 Inv-loop μ-loop
 same-length-2 c = search needs
 
 returns-2 : tie.Need-returns-2 Inv-loop μ-loop
 returns-2 c =
-    let i = c .before .before .before .before in
-    stop-few (A i) (W i) (i .before .loop .trees) (q i) (below i) (passed i .counted) (c .if2 .taken)
+    let i = c .before .before .before .before .before .before .before .before .before .before .before .before .before in
+    subst (Compares (A i) (W i) (T i) (i .before .loop .p - 2) (c .before .before .before .before .compare-at2 .last .1 .1 .1 .0)) (c .enum-told2 .given .1) (c .before .before .before .before .compare-at2 .ensures)
 
-mul-first-stale : tie.Need-mul-first-stale Inv-loop μ-loop
-mul-first-stale c = search needs
-
-shared-slice-read-first-stale : tie.Need-shared-slice-read-first-stale Inv-loop μ-loop
-shared-slice-read-first-stale c = search needs
-
-mul-first-stale-2 : tie.Need-mul-first-stale-2 Inv-loop μ-loop
-mul-first-stale-2 c = search needs
-
-slice-read-first-stale : tie.Need-slice-read-first-stale Inv-loop μ-loop
-slice-read-first-stale c = simp length-set (omega arith)
-
-first-stale-requires : tie.Need-first-stale-requires Inv-loop μ-loop
-first-stale-requires c κs = search needs
-
-add-trees : tie.Need-add-trees Inv-loop μ-loop
-add-trees c = search needs
+sub-p : tie.Need-sub-p Inv-loop μ-loop
+sub-p c = search needs
 
 loop-less : tie.Need-loop-less Inv-loop μ-loop
 loop-less c = search needs
 
 loop-again : tie.Need-loop-again Inv-loop μ-loop
 loop-again c =
-    let i = c .before .before .before .before .before .before .before in
-    let l = i .before .loop in
-    let s = i .before .before .before .before .before .before in
-    let a : ℕ = getD (A i) (getD (W i) (q i) 0) 0 in
-    let deep : a ≤ l .trees = c .before .before .before .if2 .left in
-    let more =
-    passed-more (A i) (W i) (T i) (l .standing) (l .trees) (l .stale) (q i) a (s .pre .0) (omega (arith, l .inv .1, s .pre .1)) (below i) (passed i) (c .before .before .before .before .before .if1 .left) refl deep in
-    let found : c .first-stale .result ≡ pick (eqb (getD (T i) (q i) 0) (getD (set (l .standing) (l .trees) (q i + 1)) (l .trees - a) 0)) (l .stale) (q i) =
-    c .first-stale .ensures
-    ∙ ap (λ (x : ℕ). pick (eqb (getD (T i) (q i) 0) (getD (set (l .standing) (l .trees) x) (l .trees - a) 0)) (l .stale) (q i)) (up i) in (
-      search needs,
-      simp length-set (l .inv .1),
-      omega (arith, deep, l .inv .2, i .loop-test .taken),
-      subst (λ (x : ℕ). Passed (A i) (W i) (T i) (set (l .standing) (l .trees) x) (l .trees - a + 1) (c .first-stale .result) (q i)) (sym (up i))
-          (subst (λ (n : ℕ). Passed (A i) (W i) (T i) (set (l .standing) (l .trees) (q i + 1)) (l .trees - a + 1) n (q i)) (sym found) more),
+    let y = c .before in
+    let i = y .before .before .before .before .before .before .before .before .before .before .before .before .before in (
+      omega (arith, i .before .loop .inv .0),
+      omega (arith, y .before .before .before .before .compare-at2 .kept .1 .1 .1 .0, y .before .before .before .before .before .before .before .before .before .before .before .compare-at .kept .1 .1 .1 .0, i .before .loop .inv .1),
+      left-passes y,
     )
+
+compare-at-requires-3 : tie.Need-compare-at-requires-3 Inv-loop μ-loop
+compare-at-requires-3 c κs =
+    let l = c .before .before .before .loop in
+    let s = c .before .before .before .before .before .before .before .before in
+    let a = s .args in
+    let one : l .p ≡ 1 = c .before .if1 .taken in (
+      (s .pre .0, omega (arith, l .inv .1, s .pre .1), omega (arith, one, l .inv .0)),
+      subst (Passed (a .arities .now) (a .row .now) (a .table .now) (l .standing) (l .trees) (l .stale)) one (l .inv .2),
+    )
+
+enum-known-last : tie.Need-enum-known-last Inv-loop μ-loop
+enum-known-last c = search needs
+
+enum-told-3 : tie.Need-enum-told-3 Inv-loop μ-loop
+enum-told-3 c = search needs
 
 same-length-3 : tie.Need-same-length-3 Inv-loop μ-loop
 same-length-3 c = search needs
 
 returns-3 : tie.Need-returns-3 Inv-loop μ-loop
 returns-3 c =
-    let a = c .before .before .before .before .before .before .before .args in
-    let l = c .before .before .loop in
-    let done : l .p ≡ 0 = omega (arith, c .before .loop-test .left) in
-    passed-all (a .arities .now) (a .row .now) (a .table .now) (l .standing) (l .trees) (l .stale)
-    (subst (Passed (a .arities .now) (a .row .now) (a .table .now) (l .standing) (l .trees) (l .stale)) done (l .inv .3))
-    (c .if3 .taken)
+    let a = c .before .before .before .before .before .before .before .before .before .before .before .before .before .args in
+    subst (Compares (a .arities .now) (a .row .now) (a .table .now) 0 (c .before .before .before .before .compare-at3 .last .1 .1 .1 .0)) (c .enum-told3 .given .1) (c .before .before .before .before .compare-at3 .ensures)
+
+read-whole-requires : tie.Need-read-whole-requires Inv-loop μ-loop
+read-whole-requires c κs = search needs
 
 same-length-4 : tie.Need-same-length-4 Inv-loop μ-loop
 same-length-4 c = search needs
 
 returns-4 : tie.Need-returns-4 Inv-loop μ-loop
 returns-4 c =
-    let a = c .before .before .before .before .before .before .before .args in
-    let l = c .before .before .loop in
-    let done : l .p ≡ 0 = omega (arith, c .before .loop-test .left) in
-    stop-count (a .arities .now) (a .row .now) (a .table .now) (l .standing) (l .trees) (l .stale)
-    (subst (Passed (a .arities .now) (a .row .now) (a .table .now) (l .standing) (l .trees) (l .stale)) done (l .inv .3))
-    (c .if3 .left)
+    let x = c .before .before in
+    let a = c .before .before .before .before .before .before .before .before .before .before .before .before .before .before .before .args in
+    c .read-whole .ensures (a .arities .now) (a .row .now) (a .table .now) (x .before .before .before .before .compare-at3 .last .1 .1 .1 .0)
+    (subst (Compares (a .arities .now) (a .row .now) (a .table .now) 0 (x .before .before .before .before .compare-at3 .last .1 .1 .1 .0)) (x .last .given .1) (x .before .before .before .before .compare-at3 .ensures))
+
+read-whole-requires-2 : tie.Need-read-whole-requires-2 Inv-loop μ-loop
+read-whole-requires-2 c κs = search needs
+
+same-length-5 : tie.Need-same-length-5 Inv-loop μ-loop
+same-length-5 c = search needs
+
+returns-5 : tie.Need-returns-5 Inv-loop μ-loop
+returns-5 c =
+    let l = c .before .before .before .loop in
+    let a = c .before .before .before .before .before .before .before .before .args in
+    let none : l .p ≡ 0 = omega (arith, c .before .before .loop-test .left, c .before .if1 .left) in
+    c .read-whole2 .ensures (a .arities .now) (a .row .now) (a .table .now) (l .standing)
+    (subst (Passed (a .arities .now) (a .row .now) (a .table .now) (l .standing) (l .trees) (l .stale)) none (l .inv .2))
 
 pub compare-beside-spec : {M : Type 1} → statement M
 compare-beside-spec =
@@ -167,29 +180,29 @@ compare-beside-spec =
     Inv-loop
     μ-loop
     loop-holds
-    cast-standing
-    mul-standing
-    slice-write-standing
-    sub-p
-    mul-s
-    shared-slice-read-s
-    cast-s
+    sub-compare-at
+    compare-at-requires
+    enum-known-right
+    enum-told
     same-length
     returns
-    mul-a
-    shared-slice-read-a
-    cast-a
+    sub-compare-at-2
+    compare-at-requires-2
+    enum-known-left
+    enum-told-2
     same-length-2
     returns-2
-    mul-first-stale
-    shared-slice-read-first-stale
-    mul-first-stale-2
-    slice-read-first-stale
-    first-stale-requires
-    add-trees
+    sub-p
     loop-less
     loop-again
+    compare-at-requires-3
+    enum-known-last
+    enum-told-3
     same-length-3
     returns-3
+    read-whole-requires
     same-length-4
-    returns-4)
+    returns-4
+    read-whole-requires-2
+    same-length-5
+    returns-5)

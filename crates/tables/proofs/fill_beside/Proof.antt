@@ -7,12 +7,13 @@ use mathlib.Core.List.{List}
 use lib.ListN.{length, getD, set, length-set}
 use native.Mathlib.Omega.{arith}
 use Rattle.rows.specs.Tree.{count, size}
-use Rattle.rows.specs.Parse.{first}
+use Rattle.rows.specs.Parse.{first, behind}
 use Rattle.rows.specs.Row.{allowed}
 use Rattle.rows.specs.declared.Leaves.the-variants.{Symbols}
-use Rattle.rows.proofs.Behind.{behind, enough-behind}
+use Rattle.rows.proofs.Behind.{enough-behind}
+use Rattle.tables.specs.Beside.{Standing}
 use Rattle.tables.proofs.Fill.{partly, partly-none, partly-all, partly-more}
-use Rattle.tables.proofs.Standing.{Standing, standing-none, Turn, turn-end, turn-count, turn-standing}
+use Rattle.tables.proofs.Standing.{standing-none, Turn, turn-end, turn-count, turn-standing}
 use borrow.Author.Needs.{needs}
 use Rattle.tables.proofs.fill_beside.Statement.{statement}
 use Rattle.tables.proofs.fill_beside.Tie as tie

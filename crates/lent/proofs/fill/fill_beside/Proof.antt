@@ -7,13 +7,14 @@ use mathlib.Core.List.{List}
 use lib.ListN.{length, getD, set, length-set}
 use native.Mathlib.Omega.{arith}
 use Rattle.rows.specs.Tree.{count, size}
-use Rattle.rows.specs.Parse.{first, table as tableOf}
+use Rattle.rows.specs.Parse.{first, table as tableOf, behind}
 use Rattle.rows.specs.Row.{allowed}
 use Rattle.rows.specs.Buffers.{written}
 use Rattle.rows.specs.declared.Leaves.the-variants.{Symbols}
-use Rattle.rows.proofs.Behind.{behind, enough-behind}
+use Rattle.rows.proofs.Behind.{enough-behind}
 use Rattle.tables.proofs.Fill.{partly, partly-none, partly-all, partly-more}
-use Rattle.tables.proofs.Standing.{Standing, standing-none, Turn, turn-end, turn-count, turn-standing}
+use Rattle.tables.specs.Beside.{Standing}
+use Rattle.tables.proofs.Standing.{standing-none, Turn, turn-end, turn-count, turn-standing}
 use Rattle.wire.specs.Wire.{numbers, bytesOf}
 use Rattle.wire.proofs.Numbers.{numbers-length, write-read, with-numbers, with-kept, with-length}
 use borrow.Author.Needs.{needs}

@@ -1,0 +1,39 @@
+-- What a pass from right to left over a row and its table keeps: the ends of the trees that stand side by side, and the first
+-- entry that is not the row's.
+use Prim.Native.Nat.{ℕ, _+_}
+use mathlib.Core.Path.{_≡_}
+use mathlib.Core.List.{List}
+use lib.Dec.{ltb}
+use lib.ListN.{length, getD, drop}
+use Rattle.rows.specs.Tree.{Forest, Forest.none, Forest.grow, count, size, ends, Ranked}
+use Rattle.rows.specs.Parse.{behind}
+use Rattle.rows.specs.Row.{pick, allowed}
+use Rattle.rows.specs.Refusals.{symbols, differs}
+use Rattle.rows.specs.declared.Leaves.the-variants.{Symbols}
+use Rattle.rows.specs.declared.Refusal.the-variants.{Stale}
+use Rattle.rows.specs.declared.Check.{Check}
+use Rattle.rows.specs.declared.Check.the-variants.{Fine, Refused}
+use Rattle.tables.specs.declared.Compared.{Compared}
+use Rattle.tables.specs.declared.Compared.the-variants.{NoTree, To}
+
+-- the list holds the ends of the trees of a forest that starts at b: at place k that of the tree with k trees to its right
+unfoldable pub Standing : List ℕ → ℕ → Forest → Type 0
+Standing l b none = Unit {0}
+Standing l b (grow s cs f) = (getD l (count f) 0 ≡ b + size cs + 1) × Standing l (b + size cs + 1) f
+
+-- what is refused where the first stale entry of a row of n symbols stands at k, nothing where k is past the row
+abbrev pub staleFrom : ℕ → ℕ → Check
+staleFrom n k = pick (ltb k n) (Refused (Stale k)) Fine
+
+-- at place p: the row is read from there on, `trees` stand there side by side, the list l holds their ends, and of the entries
+-- from there on the first that is not the row's stands at `stale`
+pub record Passed (A w t l : List ℕ) (trees stale p : ℕ) : Type 0 where
+  pub ranked : Ranked A (allowed Symbols A) (behind A w p)
+  pub counted : trees ≡ count (behind A w p)
+  pub standing : Standing l p (behind A w p)
+  pub told : differs p (ends p (behind A w p)) (drop p t) ≡ staleFrom (length w) stale
+
+-- what the symbol at p and its entry add to that: the row is no tree's; or row and table are read from p on
+abbrev pub Compares : List ℕ → List ℕ → List ℕ → ℕ → List ℕ → Compared → Type 0
+Compares A w t p l NoTree = symbols A w ≡ Fine → ⊥
+Compares A w t p l (To trees stale) = Passed A w t l trees stale p
