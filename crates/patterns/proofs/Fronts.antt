@@ -1,17 +1,18 @@
 -- How many symbols at the front of two lists are the same: all of them exactly if the lists are equal.
 -- Assumes nothing.
 use Prim.Native.Nat.{ℕ, zero, suc, _+_, _-_, _≤_, _<_}
-use mathlib.Core.Path.{_≡_, refl, ap}
+use mathlib.Core.Path.{_≡_, refl, sym, ap, _∙_, subst}
 use mathlib.Core.List.{List, [], _∷_}
 use mathlib.Core.Bool.{Bool, true, false}
 use native.Mathlib.Omega.{arith}
 use native.Mathlib.Nat.{add-zero, zero-add}
+use native.Mathlib.Decide.{decLt}
 use borrow.Author.Tests.{eq-eqb, eqb-true}
 use lib.Dec.{eqb}
 use lib.ListN.{getD, length, take, drop}
 use lib.Seq.{drop-cons}
 use Rattle.rows.specs.Row.{pick}
-use Rattle.patterns.specs.Walk.{sameSymbol, sameFront}
+use Rattle.patterns.specs.Walk.{sameSymbol, sameFront, SameAt}
 
 pub front-same : (xs : List ℕ) → sameFront xs xs ≡ length xs
 unfolding sameFront
@@ -80,3 +81,33 @@ module _ (w : List ℕ) (a b n i : ℕ) (ha : a + n ≤ length w) (hb : b + n �
   pub counted-end : n ≤ i → counted w a b n i ≡ i
   unfolding sameFront run
   counted-end l = let z : n - i ≡ 0 = omega arith in rw z (add-zero i)
+
+-- m more symbols are the same
+pub counted-many : (w : List ℕ) (a b n i m : ℕ) → a + n ≤ length w → b + n ≤ length w → i + m ≤ n
+    → SameAt w (a + i) (b + i) m → counted w a b n i ≡ counted w a b n (i + m)
+counted-many w a b n i zero ha hb h s = ap (counted w a b n) (sym (add-zero i))
+counted-many w a b n i (suc m) ha hb h s =
+    let next : i + m + 1 ≡ i + suc m = omega arith in
+    let left : a + i + m ≡ a + (i + m) = omega arith in
+    let right : b + i + m ≡ b + (i + m) = omega arith in
+    let last = subst (λ (x : ℕ). sameSymbol (getD w x 0) (getD w (b + (i + m)) 0) ≡ true) left
+    (subst (λ (y : ℕ). sameSymbol (getD w (a + i + m) 0) (getD w y 0) ≡ true) right (s m (omega arith))) in
+    counted-many w a b n i m ha hb (omega arith) (λ k l. s k (omega arith))
+    ∙ counted-more w a b n (i + m) ha hb (omega arith) last
+    ∙ ap (counted w a b n) next
+
+-- what is counted up to i, and what is left from there on
+pub counted-split : (w : List ℕ) (a b n i : ℕ)
+    → counted w a b n i ≡ i + sameFront (take (n - i) (drop (a + i) w)) (take (n - i) (drop (b + i) w))
+unfolding run
+counted-split w a b n i = refl
+
+-- one symbol more of a stretch is the same
+pub same-next : (w : List ℕ) (a b k : ℕ) → SameAt w a b k → sameSymbol (getD w (a + k) 0) (getD w (b + k) 0) ≡ true → SameAt w a b (k + 1)
+same-next w a b k before q = λ j l. at j l (decLt j k)
+  where
+    at : (j : ℕ) → j < k + 1 → Dec (j < k) → sameSymbol (getD w (a + j) 0) (getD w (b + j) 0) ≡ true
+    at j l (yes m) = before j m
+    at j l (no m) =
+        let here : k ≡ j = omega arith in
+        subst (λ (x : ℕ). sameSymbol (getD w (a + x) 0) (getD w (b + x) 0) ≡ true) here q

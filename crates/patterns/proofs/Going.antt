@@ -31,6 +31,7 @@ use Rattle.patterns.specs.declared.Stepped.the-variants.{To, Miss}
 use Rattle.patterns.proofs.Leaves.{Kind, kind}
 use Rattle.patterns.proofs.Marks.{picks, marks-none, marks-wider, marks-set}
 use Rattle.patterns.proofs.Matching.{checked-ends, checked-pattern}
+use Rattle.patterns.proofs.Steps.{steps-same}
 
 -- behind the end of a subtree one tree fewer stands ahead
 fewer : (A w e q : List ℕ) → Checked A w e q → (j : ℕ) → j < length w → count (behind A w (getD e j 0)) + 1 ≡ count (behind A w j)
@@ -153,6 +154,10 @@ module _ (w e q : List ℕ) (p : ℕ) where
 
       pub walking-stops : (x : ℕ) → steps w e (getD q k 0) j ms ≡ misses x → walk w e q p unmarked ≡ misses x
       walking-stops x z = walk-on (misses x) z
+
+      -- the symbol of the pattern stands in the row
+      pub walking-same : sameSymbol (getD w j 0) (getD q k 0) ≡ true → Walking w e q p ms (j + 1) (k + 1)
+      walking-same y = walking-to (j + 1) ms (steps-same w e (getD q k 0) j ms y)
 
       -- the step is the code's answer
       module _ (r : Stepped) (ms′ : List ℕ) (a : Done (steps w e (getD q k 0) j ms) ms r ms′) where

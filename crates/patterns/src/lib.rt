@@ -1,13 +1,14 @@
 // Patterns over a row with its table: the matches, and the variables at one match.
 ghost use mathlib.Core.Path.{_≡_};
 ghost use mathlib.Core.List.{List};
-ghost use Prim.Native.Nat.{ℕ, _+_, _≤_, _<_};
+ghost use mathlib.Core.Bool.{true, false};
+ghost use Prim.Native.Nat.{ℕ, _+_, _-_, _≤_, _<_};
 ghost use lib.ListN.{length, take, drop, getD};
 ghost use Rattle.rows.specs.Buffers.{written};
 ghost use Rattle.rows.specs.Refusals.{pattern};
 ghost use Rattle.patterns.specs.Pattern.{leaf};
 ghost use Rattle.patterns.specs.Searches.{Checked, Searchable, Next, Counts, Lists, Room, Binds};
-ghost use Rattle.patterns.specs.Walk.{sameSymbol, sameFront, meets, steps, Ends, MarksIn, Meetable, Done, markBegin, markEnd, markSpans};
+ghost use Rattle.patterns.specs.Walk.{sameSymbol, sameFront, SameAt, meets, steps, Ends, MarksIn, Meetable, Done, markBegin, markEnd, markSpans};
 use rows::Check;
 use rows::Leaves;
 use rows::Refusal;
@@ -49,8 +50,41 @@ pub fn same(x: u16, y: u16) -> bool
     x == y
 }
 
-// How many of the n symbols from a on are the same as those from b on: left at the first that differs.
-fn count_same(row: &[u16], a: usize, b: usize, n: usize) -> usize
+// Are the eight symbols from a on the same as those from b on? Left at the first that differs. The loop's end is known, so the
+// compiler writes it out.
+fn same_stretch(row: &[u16], a: usize, b: usize) -> bool
+    requires { ⌜ (a + 8 ≤ length (now row)) × (b + 8 ≤ length (now row)) ⌝ }
+    ensures { λ r. ⌜ (r ≡ true → SameAt (now (row .entry)) a b 8) ⌝ }
+{
+    let mut k = 0;
+    while k < 8 {
+        if same(row[a + k], row[b + k]) {
+            k += 1;
+        } else {
+            return false;
+        }
+    }
+    true
+}
+
+// How many of the n symbols from a on are the same as those from b on, in whole stretches of eight.
+fn count_stretches(row: &[u16], a: usize, b: usize, n: usize) -> usize
+    requires { ⌜ (a + n ≤ length (now row)) × (b + n ≤ length (now row)) ⌝ }
+    ensures { λ r. ⌜ (r ≤ n) × (sameFront (take n (drop a (now (row .entry)))) (take n (drop b (now (row .entry)))) ≡ r + sameFront (take (n - r) (drop (a + r) (now (row .entry)))) (take (n - r) (drop (b + r) (now (row .entry))))) ⌝ }
+{
+    let mut i = 0;
+    while i + 8 <= n {
+        if same_stretch(row, a + i, b + i) {
+            i += 8;
+        } else {
+            return i;
+        }
+    }
+    i
+}
+
+// The same, symbol by symbol: left at the first that differs.
+fn count_singly(row: &[u16], a: usize, b: usize, n: usize) -> usize
     requires { ⌜ (a + n ≤ length (now row)) × (b + n ≤ length (now row)) ⌝ }
     ensures { λ r. ⌜ r ≡ sameFront (take n (drop a (now (row .entry)))) (take n (drop b (now (row .entry)))) ⌝ }
 {
@@ -63,6 +97,15 @@ fn count_same(row: &[u16], a: usize, b: usize, n: usize) -> usize
         }
     }
     i
+}
+
+// How many of the n symbols from a on are the same as those from b on: left at the first that differs.
+fn count_same(row: &[u16], a: usize, b: usize, n: usize) -> usize
+    requires { ⌜ (a + n ≤ length (now row)) × (b + n ≤ length (now row)) ⌝ }
+    ensures { λ r. ⌜ r ≡ sameFront (take n (drop a (now (row .entry)))) (take n (drop b (now (row .entry)))) ⌝ }
+{
+    let i = count_stretches(row, a, b, n);
+    i + count_singly(row, a + i, b + i, n - i)
 }
 
 // What a symbol of the pattern finds in the row: the position after what it stands for, or the position where it does
@@ -91,14 +134,11 @@ pub fn meet(row: &[u16], i: usize, j: usize, end: usize, marks: &mut [u16; 16]) 
     Stepped::Miss(j + equal)
 }
 
-// One symbol of the pattern at row position j.
+// One symbol of the pattern at row position j, where another symbol stands: only S and a variable can fit.
 fn step(row: &[u16], table: &[u16], s: u16, j: usize, marks: &mut [u16; 16]) -> Stepped
-    requires { ⌜ Ends (now row) (now table) × MarksIn j (now marks) × (j < length (now row)) ⌝ }
+    requires { ⌜ Ends (now row) (now table) × MarksIn j (now marks) × (j < length (now row)) × (sameSymbol (getD (now row) j 0) s ≡ false) ⌝ }
     ensures { λ r. ⌜ Done (steps (now (row .entry)) (now (table .entry)) s j (now (marks .entry))) (now (marks .entry)) r (now (marks .exit)) ⌝ }
 {
-    if same(row[j], s) {
-        return Stepped::To(j + 1);
-    }
     let kind = leaf_of(s);
     match kind {
         Leaf::Plain => Stepped::Miss(j),
@@ -124,11 +164,16 @@ pub fn next_match(row: &[u16], table: &[u16], pattern: &[u16], from: usize) -> u
             let mut marks = [0u16; 16];
             let mut j = p + 1;
             for k in 1..pattern.len() {
-                let found = step(row, table, pattern[k], j, &mut marks);
-                let Stepped::To(next) = found else {
-                    continue 'positions;
-                };
-                j = next;
+                let s = pattern[k];
+                if same(row[j], s) {
+                    j += 1;
+                } else {
+                    let found = step(row, table, s, j, &mut marks);
+                    let Stepped::To(next) = found else {
+                        continue 'positions;
+                    };
+                    j = next;
+                }
             }
             return p;
         }
@@ -218,11 +263,16 @@ pub fn variables_at(row: &[u16], table: &[u16], pattern: &[u16], p: usize, out: 
     let mut marks = [0u16; 16];
     let mut j = p;
     for k in 0..pattern.len() {
-        let found = step(row, table, pattern[k], j, &mut marks);
-        let Stepped::To(next) = found else {
-            return false;
-        };
-        j = next;
+        let s = pattern[k];
+        if same(row[j], s) {
+            j += 1;
+        } else {
+            let found = step(row, table, s, j, &mut marks);
+            let Stepped::To(next) = found else {
+                return false;
+            };
+            j = next;
+        }
     }
     write_spans(table, marks, out);
     true

@@ -2,19 +2,19 @@
 -- walk that is left from pattern place k decides the walk from p. A mismatch takes the outer loop's step, so p is among
 -- what the inner loop changes.
 -- Assumes nothing.
-use Prim.Native.Nat.{ℕ, _-_, _+_}
+use Prim.Native.Nat.{ℕ, _-_, _+_, _<_}
 use mathlib.Core.Logic.{⊎-elim}
-use mathlib.Core.List.{[], _∷_}
+use mathlib.Core.List.{List, [], _∷_}
 use denote.Enum.Declared.{tagOf}
 use types.Run.{OneOf}
 use Rattle.patterns.specs.declared.Leaf.{Leaf}
 use Rattle.patterns.proofs.Leaf.{the-type}
 use Rattle.patterns.specs.declared.Leaf.the-variants.{Plain}
-use mathlib.Core.Path.{_≡_, refl, sym, ap, _∙_, subst}
+use mathlib.Core.Path.{_≡_, refl, sym, ap, _∙_, subst, subst₂}
 use native.Mathlib.Omega.{arith}
 use lib.ListN.{length}
 use Rattle.patterns.proofs.Matching.{checked-ends, checked-pattern}
-use Rattle.patterns.proofs.Going.{Walking, walking-inside, walking-next, walking-miss, walking-end}
+use Rattle.patterns.proofs.Going.{Walking, walking-inside, walking-same, walking-next, walking-miss, walking-end}
 use Rattle.patterns.proofs.Searching.{next-bare, Passed, passed-none, passed-more, next-here, next-none, root-same, root-other}
 use borrow.Author.Needs.{needs}
 use Rattle.patterns.proofs.next_match.Statement.{statement}
@@ -38,6 +38,12 @@ Inv-positions row table pattern from root p₀ p-end p = (p-end ≡ length row) 
 
 abbrev μ-positions : tie.MeasureT-positions
 μ-positions row table pattern from root p₀ p-end p = length row - p
+
+-- a position of the row faces the number at k
+inside : (c : tie.In-loop Inv-loop μ-loop Inv-positions μ-positions) → c .before .loop .j < length (c .before .before .before .before .before .before .before .before .before .before .before .before .before .before .args .row .now)
+inside c =
+    let l = c .before in let s = l .before .before .before .before .before .before .before .before .before .before .before .before .before in let g = s .args in let i = l .loop in
+    walking-inside (g .row .now) (g .table .now) (g .pattern .now) _ (s .pre .0) (i .marks) (i .j) (i .k) (i .inv .2) (search needs)
 
 shared-slice-read-root : tie.Need-shared-slice-read-root Inv-loop μ-loop Inv-positions μ-positions
 shared-slice-read-root c = let s = c .before .before .before .before in let g = s .args in checked-pattern (s .pre .0 .0) (g .row .now) (g .table .now) (g .pattern .now) (s .pre .0 .1) .some
@@ -75,16 +81,28 @@ loop-holds c =
     let s = c .before .before .before .before .before .before .before .before .before .before .before .before in let g = s .args in
     (refl, refl, root-same (g .row .now) (g .table .now) (g .pattern .now) (s .pre .0) _ (search needs) (sym (c .before .same .ensures) ∙ c .if1 .taken))
 
-mul-step : tie.Need-mul-step Inv-loop μ-loop Inv-positions μ-positions
-mul-step c = search needs
+mul-s : tie.Need-mul-s Inv-loop μ-loop Inv-positions μ-positions
+mul-s c = search needs
 
-shared-slice-read-step : tie.Need-shared-slice-read-step Inv-loop μ-loop Inv-positions μ-positions
-shared-slice-read-step c = search needs
+shared-slice-read-s : tie.Need-shared-slice-read-s Inv-loop μ-loop Inv-positions μ-positions
+shared-slice-read-s c = search needs
+
+mul-same-2 : tie.Need-mul-same-2 Inv-loop μ-loop Inv-positions μ-positions
+mul-same-2 c = search needs
+
+shared-slice-read-same-2 : tie.Need-shared-slice-read-same-2 Inv-loop μ-loop Inv-positions μ-positions
+shared-slice-read-same-2 c = inside (c .before .before)
+
+same-requires-2 : tie.Need-same-requires-2 Inv-loop μ-loop Inv-positions μ-positions
+same-requires-2 c κs = search needs
+
+add-j-2 : tie.Need-add-j-2 Inv-loop μ-loop Inv-positions μ-positions
+add-j-2 c = search needs
 
 step-requires : tie.Need-step-requires Inv-loop μ-loop Inv-positions μ-positions
 step-requires c κs =
-    let l = c .before .before .before in let s = l .before .before .before .before .before .before .before .before .before .before .before .before .before in let g = s .args in let i = l .loop in
-    (checked-ends (s .pre .0 .0) (g .row .now) (g .table .now) (g .pattern .now) (s .pre .0 .1), i .inv .2 .marks, walking-inside (g .row .now) (g .table .now) (g .pattern .now) _ (s .pre .0) (i .marks) (i .j) (i .k) (i .inv .2) (search needs))
+    let l = c .before .before .before .before .before .before in let s = l .before .before .before .before .before .before .before .before .before .before .before .before .before in let g = s .args in let i = l .loop in
+    (checked-ends (s .pre .0 .0) (g .row .now) (g .table .now) (g .pattern .now) (s .pre .0 .1), i .inv .2 .marks, inside (c .before .before .before .before .before), sym (c .before .before .same2 .ensures) ∙ c .before .if2 .left)
 
 enum-known-found : tie.Need-enum-known-found Inv-loop μ-loop Inv-positions μ-positions
 enum-known-found c = search needs
@@ -100,9 +118,9 @@ positions-less c = search needs
 
 positions-again : tie.Need-positions-again Inv-loop μ-loop Inv-positions μ-positions
 positions-again c =
-    let l = c .before .before .before .before .before .before in let u = l .before .before .before .before .before in let s = u .before .before .before .before .before .before .before .before in let g = s .args in let o = u .positions in let i = l .loop in
+    let l = c .before .before .before .before .before .before .before .before .before in let u = l .before .before .before .before .before in let s = u .before .before .before .before .before .before .before .before in let g = s .args in let o = u .positions in let i = l .loop in
     let w = g .row .now in let e = g .table .now in let q = g .pattern .now in
-    let missed = walking-miss w e q (o .p) (s .pre .0) (i .marks) (i .j) (i .k) (i .inv .2) (search needs) _ _ (c .before .before .step .ensures) _ (c .enum-told2 .given .1) in
+    let missed = walking-miss w e q (o .p) (s .pre .0) (i .marks) (i .j) (i .k) (i .inv .2) (c .before .before .before .before .before .before .before .before .loop-test .taken) _ _ (c .before .before .step .ensures) _ (c .enum-told2 .given .1) in
     (refl, subst (λ n. Passed w e q (g .from) (n + 1)) (sym (i .inv .0)) (passed-more w e q (g .from) (o .p) (o .inv .1) (search needs) _ missed))
 
 add-k : tie.Need-add-k Inv-loop μ-loop Inv-positions μ-positions
@@ -113,10 +131,16 @@ loop-less c = search needs
 
 loop-again : tie.Need-loop-again Inv-loop μ-loop Inv-positions μ-positions
 loop-again c =
-    let l = c .before .before .before .before .before .before .before in let s = l .before .before .before .before .before .before .before .before .before .before .before .before .before in let g = s .args in let i = l .loop in (
+    let l = c .before .before .before .before .before in let s = l .before .before .before .before .before .before .before .before .before .before .before .before .before in let g = s .args in let i = l .loop in
+    let w = g .row .now in let e = g .table .now in let q = g .pattern .now in
+    let p = l .before .before .before .before .before .positions .p in
+    let here : List ℕ → ℕ → Type 0 = λ ms j. Walking w e q p ms j (i .k + 1) in (
       i .inv .0,
       refl,
-      walking-next (g .row .now) (g .table .now) (g .pattern .now) _ (s .pre .0) (i .marks) (i .j) (i .k) (i .inv .2) (search needs) _ _ (c .before .before .before .step .ensures) _ (c .before .found .given .1),
+      ⊎-elim
+          (λ x. subst₂ here (sym (x .1)) (sym (x .2)) (walking-same w e q p (s .pre .0) (i .marks) (i .j) (i .k) (i .inv .2) (search needs) (sym (c .before .same2 .ensures) ∙ x .0 .taken)))
+          (λ x. subst₂ here (sym (x .6)) (sym (x .7)) (walking-next w e q p (s .pre .0) (i .marks) (i .j) (i .k) (i .inv .2) (search needs) _ _ (x .2 .ensures) _ (x .4 .given .1)))
+          (c .if2 .came),
     )
 
 returns-2 : tie.Need-returns-2 Inv-loop μ-loop Inv-positions μ-positions
@@ -162,8 +186,12 @@ next-match-spec =
     same-requires
     add-j
     loop-holds
-    mul-step
-    shared-slice-read-step
+    mul-s
+    shared-slice-read-s
+    mul-same-2
+    shared-slice-read-same-2
+    same-requires-2
+    add-j-2
     step-requires
     enum-known-found
     enum-told-2

@@ -1,32 +1,13 @@
 -- `patterns::step` meets its contract, by the kind of the number.
 -- Assumes nothing.
-use Prim.Native.Nat.{_+_}
 use mathlib.Core.Path.{refl, sym, _∙_}
 use native.Mathlib.Omega.{arith}
 use lib.ListN.{getD}
 use Rattle.patterns.specs.Walk.{Outcome.misses, Outcome.reaches}
-use Rattle.patterns.proofs.Steps.{answers, answers-at, variable-small, steps-same, steps-plain, steps-blank, steps-variable}
+use Rattle.patterns.proofs.Steps.{answers, answers-at, variable-small, steps-plain, steps-blank, steps-variable}
 use borrow.Author.Needs.{needs}
 use Rattle.patterns.proofs.step.Statement.{statement}
 use Rattle.patterns.proofs.step.Tie as tie
-
-mul-same : tie.Need-mul-same
-mul-same c = search needs
-
-shared-slice-read-same : tie.Need-shared-slice-read-same
-shared-slice-read-same c = search needs
-
-same-requires : tie.Need-same-requires
-same-requires c κs = search needs
-
-add-t12 : tie.Need-add-t12
-add-t12 c = search needs
-
-returns : tie.Need-returns
-returns c =
-    let g = c .before .before .before .before .before .args in
-    answers _ (reaches (g .j + 1) (g .marks .now)) (g .marks .now)
-    (steps-same (g .row .now) (g .table .now) (g .s) (g .j) (g .marks .now) (sym (c .before .same .ensures) ∙ c .if1 .taken))
 
 leaf-of-requires : tie.Need-leaf-of-requires
 leaf-of-requires c κs = search needs
@@ -37,14 +18,14 @@ enum-told c = search needs
 enum-told-2 : tie.Need-enum-told-2
 enum-told-2 c = search needs
 
-mul-t14 : tie.Need-mul-t14
-mul-t14 c = search needs
+mul-t9 : tie.Need-mul-t9
+mul-t9 c = search needs
 
-shared-slice-read-t16 : tie.Need-shared-slice-read-t16
-shared-slice-read-t16 c = search needs
+shared-slice-read-t11 : tie.Need-shared-slice-read-t11
+shared-slice-read-t11 c = search needs
 
-cast-t17 : tie.Need-cast-t17
-cast-t17 c = omega (arith, c .shared-slice-known4 .given (c .before .before .before .before .before .before .before .before .before .args .j))
+cast-t12 : tie.Need-cast-t12
+cast-t12 c = omega (arith, c .shared-slice-known3 .given (c .before .before .before .before .before .before .args .j))
 
 enum-known-kind : tie.Need-enum-known-kind
 enum-known-kind c = search needs
@@ -56,11 +37,11 @@ shared-slice-read-meet : tie.Need-shared-slice-read-meet
 shared-slice-read-meet c = search needs
 
 cast-meet : tie.Need-cast-meet
-cast-meet c = omega (arith, c .shared-slice-known5 .given (c .before .before .before .before .before .before .before .before .before .before .args .j))
+cast-meet c = omega (arith, c .shared-slice-known4 .given (c .before .before .before .before .before .before .before .args .j))
 
 meet-requires : tie.Need-meet-requires
 meet-requires c κs =
-    let l = c .before .before .before .before .before in let s = l .before .before .before .before .before .before in
+    let l = c .before .before .before .before .before in let s = l .before .before .before in
     record {
       most = s .pre .0 .most;
       variable = variable-small (s .args .s) _ (sym (l .leaf-of .ensures) ∙ c .before .before .before .kind .given .1);
@@ -69,25 +50,23 @@ meet-requires c κs =
       marks = s .pre .1;
     }
 
+returns : tie.Need-returns
+returns c =
+    let l = c .before .before in let s = l .before .before .before in let g = s .args in
+    answers _ (misses (g .j)) (g .marks .now)
+    (steps-plain (g .row .now) (g .table .now) (g .s) (g .j) (g .marks .now) (s .pre .3) (sym (l .leaf-of .ensures) ∙ c .enum-told .given .1))
+
 returns-2 : tie.Need-returns-2
 returns-2 c =
-    let l = c .before .before in let g = l .before .before .before .before .before .before .args in
-    answers _ (misses (g .j)) (g .marks .now)
-    (steps-plain (g .row .now) (g .table .now) (g .s) (g .j) (g .marks .now) (sym (l .before .before .same .ensures) ∙ l .before .if1 .left)
-    (sym (l .leaf-of .ensures) ∙ c .enum-told .given .1))
+    let l = c .before .before .before in let s = l .before .before .before in let g = s .args in
+    answers _ (reaches (getD (g .table .now) (g .j) 0) (g .marks .now)) (g .marks .now)
+    (steps-blank (g .row .now) (g .table .now) (g .s) (g .j) (g .marks .now) (s .pre .3) (sym (l .leaf-of .ensures) ∙ c .before .enum-told2 .given .1))
 
 returns-3 : tie.Need-returns-3
 returns-3 c =
-    let l = c .before .before .before in let g = l .before .before .before .before .before .before .args in
-    answers _ (reaches (getD (g .table .now) (g .j) 0) (g .marks .now)) (g .marks .now)
-    (steps-blank (g .row .now) (g .table .now) (g .s) (g .j) (g .marks .now) (sym (l .before .before .same .ensures) ∙ l .before .if1 .left)
-    (sym (l .leaf-of .ensures) ∙ c .before .enum-told2 .given .1))
-
-returns-4 : tie.Need-returns-4
-returns-4 c =
-    let l = c .before .before .before .before .before .before in let g = l .before .before .before .before .before .before .args in
+    let l = c .before .before .before .before .before .before in let s = l .before .before .before in let g = s .args in
     answers-at _ _ (g .marks .now) (c .meet .result) _
-    (steps-variable (g .row .now) (g .table .now) (g .s) (g .j) (g .marks .now) (sym (l .before .before .same .ensures) ∙ l .before .if1 .left) _
+    (steps-variable (g .row .now) (g .table .now) (g .s) (g .j) (g .marks .now) (s .pre .3) _
     (sym (l .leaf-of .ensures) ∙ c .before .before .before .before .kind .given .1))
     (c .meet .ensures (g .table .now) refl)
 
@@ -95,22 +74,17 @@ pub step-spec : {M : Type 1} → statement M
 step-spec =
     tie.close
     (tie.spec
-    mul-same
-    shared-slice-read-same
-    same-requires
-    add-t12
-    returns
     leaf-of-requires
     enum-told
     enum-told-2
-    mul-t14
-    shared-slice-read-t16
-    cast-t17
+    mul-t9
+    shared-slice-read-t11
+    cast-t12
     enum-known-kind
     mul-meet
     shared-slice-read-meet
     cast-meet
     meet-requires
+    returns
     returns-2
-    returns-3
-    returns-4)
+    returns-3)

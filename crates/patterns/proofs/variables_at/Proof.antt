@@ -1,13 +1,15 @@
 -- `patterns::variables_at` meets its contract: the walk that is left from pattern place k decides the walk from p, and the
 -- marks of a walk that comes through are those of the variables' first places.
 -- Assumes nothing.
-use Prim.Native.Nat.{_-_}
-use mathlib.Core.Path.{_≡_, refl}
+use Prim.Native.Nat.{ℕ, _-_, _+_, _<_}
+use mathlib.Core.Path.{_≡_, refl, sym, _∙_, subst₂}
+use mathlib.Core.Logic.{⊎-elim}
+use mathlib.Core.List.{List}
 use native.Mathlib.Omega.{arith}
 use lib.ListN.{length}
 use Rattle.patterns.proofs.Marks.{marks-wider}
 use Rattle.patterns.proofs.Matching.{checked-ends}
-use Rattle.patterns.proofs.Going.{Walking, walking-start, walking-inside, walking-next, walking-miss, walking-end}
+use Rattle.patterns.proofs.Going.{Walking, walking-start, walking-inside, walking-same, walking-next, walking-miss, walking-end}
 use Rattle.patterns.proofs.Facing.{binds-none, binds-some}
 use borrow.Author.Needs.{needs}
 use Rattle.patterns.proofs.variables_at.Statement.{statement}
@@ -19,21 +21,39 @@ Inv-loop row table pattern p out marks₀ j₀ k₀ k-end marks j k = (k-end ≡
 abbrev μ-loop : tie.MeasureT-loop
 μ-loop row table pattern p out marks₀ j₀ k₀ k-end marks j k = length pattern - k
 
+-- a position of the row faces the number at k
+inside : (c : tie.In-loop Inv-loop μ-loop) → c .before .loop .j < length (c .before .before .before .before .before .before .args .row .now)
+inside c =
+    let l = c .before in let s = l .before .before .before .before .before in let g = s .args in let i = l .loop in
+    walking-inside (g .row .now) (g .table .now) (g .pattern .now) (g .p) (s .pre .0) (i .marks) (i .j) (i .k) (i .inv .1) (search needs)
+
 loop-holds : tie.Need-loop-holds Inv-loop μ-loop
 loop-holds c =
     let s = c .before .before .before .before in let g = s .args in
     (refl, walking-start (g .row .now) (g .table .now) (g .pattern .now) (g .p) (s .pre .1))
 
-mul-step : tie.Need-mul-step Inv-loop μ-loop
-mul-step c = search needs
+mul-s : tie.Need-mul-s Inv-loop μ-loop
+mul-s c = search needs
 
-shared-slice-read-step : tie.Need-shared-slice-read-step Inv-loop μ-loop
-shared-slice-read-step c = search needs
+shared-slice-read-s : tie.Need-shared-slice-read-s Inv-loop μ-loop
+shared-slice-read-s c = search needs
+
+mul-same : tie.Need-mul-same Inv-loop μ-loop
+mul-same c = search needs
+
+shared-slice-read-same : tie.Need-shared-slice-read-same Inv-loop μ-loop
+shared-slice-read-same c = inside (c .before .before)
+
+same-requires : tie.Need-same-requires Inv-loop μ-loop
+same-requires c κs = search needs
+
+add-j : tie.Need-add-j Inv-loop μ-loop
+add-j c = search needs
 
 step-requires : tie.Need-step-requires Inv-loop μ-loop
 step-requires c κs =
-    let l = c .before .before .before in let s = l .before .before .before .before .before in let g = s .args in let i = l .loop in
-    (checked-ends (s .pre .0 .0) (g .row .now) (g .table .now) (g .pattern .now) (s .pre .0 .1), i .inv .1 .marks, walking-inside (g .row .now) (g .table .now) (g .pattern .now) (g .p) (s .pre .0) (i .marks) (i .j) (i .k) (i .inv .1) (search needs))
+    let l = c .before .before .before .before .before .before in let s = l .before .before .before .before .before in let g = s .args in let i = l .loop in
+    (checked-ends (s .pre .0 .0) (g .row .now) (g .table .now) (g .pattern .now) (s .pre .0 .1), i .inv .1 .marks, inside (c .before .before .before .before .before), sym (c .before .before .same .ensures) ∙ c .before .if1 .left)
 
 enum-known-found : tie.Need-enum-known-found Inv-loop μ-loop
 enum-known-found c = search needs
@@ -43,7 +63,7 @@ enum-told c = search needs
 
 returns : tie.Need-returns Inv-loop μ-loop
 returns c =
-    let l = c .before .before .before .before .before .before in let s = l .before .before .before .before .before in let g = s .args in let i = l .loop in
+    let l = c .before .before .before .before .before .before .before .before .before in let s = l .before .before .before .before .before in let g = s .args in let i = l .loop in
     let missed = walking-miss (g .row .now) (g .table .now) (g .pattern .now) (g .p) (s .pre .0) (i .marks) (i .j) (i .k) (i .inv .1) (search needs) _ _ (c .before .before .step .ensures) _ (c .enum-told .given .1) in
     binds-none (g .row .now) (g .table .now) (g .pattern .now) (g .p) (g .out .now) _ (s .pre .1) missed
 
@@ -55,8 +75,15 @@ loop-less c = search needs
 
 loop-again : tie.Need-loop-again Inv-loop μ-loop
 loop-again c =
-    let l = c .before .before .before .before .before .before .before in let s = l .before .before .before .before .before in let g = s .args in let i = l .loop in
-    (refl, walking-next (g .row .now) (g .table .now) (g .pattern .now) (g .p) (s .pre .0) (i .marks) (i .j) (i .k) (i .inv .1) (search needs) _ _ (c .before .before .before .step .ensures) _ (c .before .found .given .1))
+    let l = c .before .before .before .before .before in let s = l .before .before .before .before .before in let g = s .args in let i = l .loop in
+    let w = g .row .now in let e = g .table .now in let q = g .pattern .now in
+    let here : List ℕ → ℕ → Type 0 = λ ms j. Walking w e q (g .p) ms j (i .k + 1) in (
+      refl,
+      ⊎-elim
+          (λ x. subst₂ here (sym (x .1)) (sym (x .2)) (walking-same w e q (g .p) (s .pre .0) (i .marks) (i .j) (i .k) (i .inv .1) (search needs) (sym (c .before .same .ensures) ∙ x .0 .taken)))
+          (λ x. subst₂ here (sym (x .6)) (sym (x .7)) (walking-next w e q (g .p) (s .pre .0) (i .marks) (i .j) (i .k) (i .inv .1) (search needs) _ _ (x .2 .ensures) _ (x .4 .given .1)))
+          (c .if1 .came),
+    )
 
 write-spans-requires : tie.Need-write-spans-requires Inv-loop μ-loop
 write-spans-requires c κs =
@@ -80,8 +107,12 @@ variables-at-spec =
     Inv-loop
     μ-loop
     loop-holds
-    mul-step
-    shared-slice-read-step
+    mul-s
+    shared-slice-read-s
+    mul-same
+    shared-slice-read-same
+    same-requires
+    add-j
     step-requires
     enum-known-found
     enum-told
