@@ -6,7 +6,7 @@ use mathlib.Core.List.{List, [], _∷_}
 use mathlib.Core.Bool.{Bool, true, false}
 use native.Mathlib.Omega.{arith}
 use native.Mathlib.Nat.{add-zero, zero-add}
-use native.Mathlib.Decide.{decLt}
+use borrow.Author.Count.{below-more}
 use borrow.Author.Tests.{eq-eqb, eqb-true}
 use lib.Dec.{eqb}
 use lib.ListN.{getD, length, take, drop}
@@ -104,10 +104,4 @@ counted-split w a b n i = refl
 
 -- one symbol more of a stretch is the same
 pub same-next : (w : List ℕ) (a b k : ℕ) → SameAt w a b k → sameSymbol (getD w (a + k) 0) (getD w (b + k) 0) ≡ true → SameAt w a b (k + 1)
-same-next w a b k before q = λ j l. at j l (decLt j k)
-  where
-    at : (j : ℕ) → j < k + 1 → Dec (j < k) → sameSymbol (getD w (a + j) 0) (getD w (b + j) 0) ≡ true
-    at j l (yes m) = before j m
-    at j l (no m) =
-        let here : k ≡ j = omega arith in
-        subst (λ (x : ℕ). sameSymbol (getD w (a + x) 0) (getD w (b + x) 0) ≡ true) here q
+same-next w a b k before q = below-more (λ (j : ℕ). sameSymbol (getD w (a + j) 0) (getD w (b + j) 0) ≡ true) k before q

@@ -1,6 +1,6 @@
 -- `plain::node` and `plain::children`, which call each other, meet their contracts. The measure is twice the length of the
 -- pattern that is left, and one more for the row of children: a node hands a shorter pattern to its row of children, which
--- hands the same to its first node.
+-- hands what is left of the same to each node.
 -- Assumes nothing.
 use borrow.Author.Needs.{needs}
 use Prim.Native.Nat.{ℕ, _<_, _≤_, _+_, _-_, _*_}
