@@ -301,7 +301,7 @@ fn read_on(arities: &[u16], row: &[u16], leaves: Leaves, from: Reached) -> Verdi
     read_end(row.len(), due)
 }
 
-// A number that no number of the part is above.
+// The largest number of a part. What counts is that none is above it.
 fn largest(part: &[u16]) -> u16
     ensures { λ r. ⌜ ((k : ℕ) → k < length (now (part .entry)) → getD (now (part .entry)) k 0 ≤ r) ⌝ }
 {
