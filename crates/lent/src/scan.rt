@@ -100,9 +100,5 @@ pub fn check_row(arities: &[u8], row: &[u8]) -> Verdict
         due += wire::number_at(arities, s) as usize;
         i += 1;
     }
-    if due == i {
-        Verdict::Whole
-    } else {
-        Verdict::Faulty(Fault::Early(i))
-    }
+    rows::read_end(n, due)
 }

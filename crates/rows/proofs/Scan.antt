@@ -33,14 +33,14 @@ pub leaf-at : (l : List ℕ) (i : ℕ) → i < length l → someLeaf (drop i l) 
 unfolding someLeaf
 leaf-at l i h = ap someLeaf (drop-more l i h)
 
-pub verdict-at : (A : List ℕ) (ok : ℕ → Bool) (l : List ℕ) (k i : ℕ) → i < length l → 0 < k
+verdict-at : (A : List ℕ) (ok : ℕ → Bool) (l : List ℕ) (k i : ℕ) → i < length l → 0 < k
     → verdict A ok k i (drop i l)
     ≡ pick (ok (getD l i 0)) (verdict A ok (k - 1 + getD A (getD l i 0) 0) (i + 1) (drop (i + 1) l)) (Faulty (Stray i))
 unfolding verdict
 verdict-at A ok l k i h more =
     ap (λ (n : ℕ). verdict A ok n i (drop i l)) (omega arith) ∙ ap (verdict A ok (suc (k - 1)) i) (drop-more l i h)
 
-pub verdict-extra : (A : List ℕ) (ok : ℕ → Bool) (l : List ℕ) (i : ℕ) → i < length l → verdict A ok 0 i (drop i l) ≡ Faulty (Extra i)
+verdict-extra : (A : List ℕ) (ok : ℕ → Bool) (l : List ℕ) (i : ℕ) → i < length l → verdict A ok 0 i (drop i l) ≡ Faulty (Extra i)
 unfolding verdict
 verdict-extra A ok l i h = ap (verdict A ok 0 i) (drop-more l i h)
 
@@ -54,7 +54,7 @@ verdict-early A ok zero i h = absurd (omega arith)
 verdict-early A ok (suc k) i h = refl
 
 -- past its last number a list is read as the empty one
-pub verdict-end : (A : List ℕ) (ok : ℕ → Bool) (l : List ℕ) (k i : ℕ) → length l ≤ i → verdict A ok k i (drop i l) ≡ verdict A ok k i []
+verdict-end : (A : List ℕ) (ok : ℕ → Bool) (l : List ℕ) (k i : ℕ) → length l ≤ i → verdict A ok k i (drop i l) ≡ verdict A ok k i []
 verdict-end A ok l k i h = ap (verdict A ok k i) (drop-of-length-le l h)
 
 -- a list that is read up to position i

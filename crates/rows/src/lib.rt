@@ -265,7 +265,7 @@ fn read_at(arities: &[u16], row: &[u16], leaves: Leaves, i: usize, due: usize) -
 }
 
 // What the end of a list of n numbers finds.
-fn read_end(n: usize, due: usize) -> Verdict
+pub fn read_end(n: usize, due: usize) -> Verdict
     requires { ⌜ n ≤ due ⌝ }
     ensures { λ r. ⌜ ((A : List ℕ) (ok : ℕ → Bool) → r ≡ verdict A ok (due - n) n []) ⌝ }
 {

@@ -1,6 +1,6 @@
 -- `rows::read_at` meets its contract. The number that stands at i decides how the verdict goes on.
 -- Assumes nothing.
-use mathlib.Core.Path.{_≡_, sym, _∙_, subst}
+use mathlib.Core.Path.{sym, _∙_, subst}
 use Prim.Native.Nat.{ℕ, _+_}
 use native.Mathlib.Omega.{arith}
 use Rattle.rows.specs.Row.{ReadTo, allowed}

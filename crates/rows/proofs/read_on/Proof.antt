@@ -1,7 +1,7 @@
 -- `rows::read_on` meets its contract. The loop's invariant: the list is read up to i.
 -- Assumes nothing.
 use Prim.Native.Nat.{_-_}
-use mathlib.Core.Path.{_≡_, sym, _∙_, subst}
+use mathlib.Core.Path.{sym, _∙_, subst}
 use lib.ListN.{length}
 use Rattle.rows.specs.Row.{ReadTo, Reads, allowed}
 use Rattle.rows.proofs.Scan.{read-done}

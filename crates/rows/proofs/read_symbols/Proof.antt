@@ -1,7 +1,7 @@
 -- `rows::read_symbols` meets its contract. The loop's invariant: the list is read up to i, whichever leaves may stand.
 -- Assumes nothing.
 use Prim.Native.Nat.{ℕ, _≤_, _<_, _+_, _-_, _*_}
-use mathlib.Core.Path.{_≡_, sym, _∙_, subst}
+use mathlib.Core.Path.{_≡_, subst}
 use native.Mathlib.Omega.{arith}
 use borrow.Author.Tests.{eqb-false}
 use mathlib.Core.List.{List}

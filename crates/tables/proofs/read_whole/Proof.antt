@@ -1,7 +1,6 @@
 -- `tables::read_whole` meets its contract: the row is one tree's exactly if one tree is there.
 -- Assumes nothing.
 use Rattle.tables.proofs.Pass.{stop-count, passed-all}
-use borrow.Author.Needs.{needs}
 use Rattle.tables.proofs.read_whole.Statement.{statement}
 use Rattle.tables.proofs.read_whole.Tie as tie
 

@@ -1,14 +1,14 @@
--- `lent::check_row` meets its contract. The loop's invariant: the verdict on the row is that from i on, with as many subtrees
--- to come as symbols are due beyond i.
+-- `lent::check_row` meets its contract. The loop's invariant: the row is read up to i.
 -- Assumes nothing.
-use Prim.Native.Nat.{ℕ, _≤_, _-_, _+_, _*_}
-use mathlib.Core.List.{List}
-use mathlib.Core.Path.{_≡_, sym, ap, _∙_}
+use Prim.Native.Nat.{ℕ, _-_, _+_}
+use mathlib.Core.Bool.{true, false}
+use mathlib.Core.List.{List, []}
+use mathlib.Core.Path.{_≡_, sym, ap, _∙_, subst}
 use native.Mathlib.Omega.{arith}
-use lib.ListN.{length, drop, drop-of-length-le}
+use lib.ListN.{length, getD}
 use borrow.Author.Tests.{lt-ltb, le-ltb}
-use Rattle.rows.specs.Row.{verdict, symbol}
-use Rattle.rows.proofs.Scan.{verdict-at, verdict-extra, verdict-early, verdict-whole}
+use Rattle.rows.specs.Row.{verdict, ReadTo, symbol}
+use Rattle.rows.proofs.Scan.{read-extra, read-stray, read-next, read-done}
 use Rattle.wire.specs.Wire.{numbers}
 use borrow.Author.Needs.{needs}
 use Rattle.lent.proofs.scan.check_row.Statement.{statement}
@@ -18,11 +18,7 @@ abbrev Inv-loop : tie.InvT-loop
 Inv-loop arities row symbols n due₀ i₀ due i =
     (symbols ≡ length (numbers arities))
     × (n ≡ length (numbers row))
-    × (i ≤ n)
-    × (i ≤ due)
-    × (due ≤ 1 + 65535 * i)
-    × (verdict (numbers arities) (symbol (numbers arities)) 1 0 (numbers row)
-    ≡ verdict (numbers arities) (symbol (numbers arities)) (due - i) i (drop i (numbers row)))
+    × ReadTo (numbers arities) (symbol (numbers arities)) (numbers row) i due
 
 abbrev μ-loop : tie.MeasureT-loop
 μ-loop arities row symbols n due₀ i₀ due i = n - i
@@ -46,8 +42,7 @@ loop-holds c = search needs
 returns : tie.Need-returns Inv-loop μ-loop
 returns c =
     let l = c .before .before in
-    let none : l .loop .due - l .loop .i ≡ 0 = omega (arith, c .if1 .taken) in
-    simp (l .loop .inv .5, none, verdict-extra (A l) (symbol (A l)) (w l) (l .loop .i) (search needs))
+    sym (read-extra (A l) (symbol (A l)) (w l) _ _ (l .loop .inv .2) (search needs) (c .if1 .taken))
 
 number-at-requires : tie.Need-number-at-requires Inv-loop μ-loop
 number-at-requires c κs = search needs
@@ -58,12 +53,9 @@ cast-s c = search needs
 returns-2 : tie.Need-returns-2 Inv-loop μ-loop
 returns-2 c =
     let l = c .before .before .before .before in
-    simp (
-      l .loop .inv .5,
-      verdict-at (A l) (symbol (A l)) (w l) (l .loop .due - l .loop .i) (l .loop .i) (search needs) (search needs),
-      sym (c .before .number-at .ensures),
-      le-ltb (c .before .number-at .result) (length (A l)) (search needs),
-    )
+    let other : symbol (A l) (getD (w l) (l .loop .i) 0) ≡ false =
+    ap (symbol (A l)) (sym (c .before .number-at .ensures)) ∙ le-ltb (c .before .number-at .result) (length (A l)) (search needs) in
+    sym (read-stray (A l) (symbol (A l)) (w l) _ _ (l .loop .inv .2) (search needs) (search needs) other)
 
 number-at-requires-2 : tie.Need-number-at-requires-2 Inv-loop μ-loop
 number-at-requires-2 c κs = search needs
@@ -82,33 +74,23 @@ loop-less c = search needs
 
 loop-again : tie.Need-loop-again Inv-loop μ-loop
 loop-again c =
-    let l = c .before .before .before .before .before in (
-      search needs,
-      search needs,
-      search needs,
-      search needs,
-      search needs,
-      l .loop .inv .5
-          ∙ verdict-at (A l) (symbol (A l)) (w l) (l .loop .due - l .loop .i) (l .loop .i) (search needs) (search needs)
-          ∙ simp (sym (c .before .before .number-at .ensures), lt-ltb (c .before .before .number-at .result) (length (A l)) (search needs))
-          (ap (λ (n : ℕ). verdict (A l) (symbol (A l)) n (l .loop .i + 1) (drop (l .loop .i + 1) (w l)))
-          (omega (arith, c .number-at2 .ensures))),
-    )
+    let l = c .before .before .before .before .before in
+    let s = c .before .before .number-at in
+    let one : symbol (A l) (getD (w l) (l .loop .i) 0) ≡ true =
+    ap (symbol (A l)) (sym (s .ensures)) ∙ lt-ltb (s .result) (length (A l)) (search needs) in
+    let arity : c .number-at2 .result ≡ getD (A l) (getD (w l) (l .loop .i) 0) 0 = c .number-at2 .ensures ∙ ap (λ (k : ℕ). getD (A l) k 0) (s .ensures) in
+    let next = read-next (A l) (symbol (A l)) (w l) _ _ (l .loop .inv .2) (search needs) (search needs) one (omega (arith, arity)) in
+    (search needs, search needs, subst (λ (k : ℕ). ReadTo (A l) (symbol (A l)) (w l) (l .loop .i + 1) (l .loop .due + k)) (sym arity) next)
+
+read-end-requires : tie.Need-read-end-requires Inv-loop μ-loop
+read-end-requires c κs = search needs
 
 returns-3 : tie.Need-returns-3 Inv-loop μ-loop
 returns-3 c =
     let l = c .before .before in
-    let none : l .loop .due - l .loop .i ≡ 0 = omega (arith, c .if3 .taken) in
-    simp (l .loop .inv .5, none, drop-of-length-le (w l) {i = l .loop .i} (search needs), verdict-whole (A l) (symbol (A l)) (l .loop .i))
-
-returns-4 : tie.Need-returns-4 Inv-loop μ-loop
-returns-4 c =
-    let l = c .before .before in
-    simp (
-      l .loop .inv .5,
-      drop-of-length-le (w l) {i = l .loop .i} (search needs),
-      verdict-early (A l) (symbol (A l)) (l .loop .due - l .loop .i) (l .loop .i) (search needs),
-    )
+    c .read-end .ensures (A l) (symbol (A l))
+    ∙ ap (λ (k : ℕ). verdict (A l) (symbol (A l)) (l .loop .due - k) k []) (l .loop .inv .1)
+    ∙ sym (read-done (A l) (symbol (A l)) (w l) _ _ (l .loop .inv .2) (search needs))
 
 pub check-row-spec : {M : Type 1} → statement M
 check-row-spec =
@@ -129,5 +111,5 @@ check-row-spec =
     add-i
     loop-less
     loop-again
-    returns-3
-    returns-4)
+    read-end-requires
+    returns-3)
