@@ -1,6 +1,6 @@
 //! What the calls are held to, and how far each is from it.
 
-use crate::Measured;
+use crate::timing::Measured;
 use std::fmt::Write;
 
 /// The lengths at which the bars hold: replacements leave a little room below 16,384.

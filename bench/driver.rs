@@ -5,352 +5,14 @@
 
 mod bars;
 mod baseline;
+mod calls;
 mod picture;
+mod rows;
+mod timing;
 
-use std::hint::black_box;
-use std::time::Instant;
-
-#[repr(C)]
-#[derive(Clone, Copy, Debug, PartialEq)]
-pub struct Answer {
-    refusal: u64,
-    change: i32,
-    place: u64,
-    count: u64,
-}
-
-type List = (*const u16, usize);
-
-macro_rules! calls {
-    ($($pass:ident $build:ident $find:ident $variables:ident $replace:ident $plain:ident)*) => { extern "C" { $(
-        fn $pass(arities: *const u16, symbols: usize, row: *const u16, n: usize, table: *const u16, room: usize) -> Answer;
-        fn $build(arities: *const u16, symbols: usize, row: *const u16, n: usize, table: *mut u16, room: usize) -> Answer;
-        fn $find(arities: *const u16, symbols: usize, row: *const u16, n: usize, table: *const u16, room: usize,
-            pattern: *const u16, m: usize, out: *mut u16, places: usize) -> Answer;
-        fn $variables(arities: *const u16, symbols: usize, row: *const u16, n: usize, table: *const u16, room: usize,
-            pattern: *const u16, m: usize, position: usize, out: *mut u16, places: usize) -> Answer;
-        fn $replace(arities: *const u16, symbols: usize, row: *mut u16, row_room: usize, table: *mut u16, room: usize,
-            n: usize, replacement: *const u16, m: usize, position: usize) -> Answer;
-        fn $plain(arities: *const u16, symbols: usize, row: *const u16, n: usize, pattern: *const u16, m: usize,
-            position: usize) -> Answer;
-    )* } };
-}
-calls! {
-    timed_pass timed_build timed_find timed_variables timed_replace timed_plain_match
-    c_pass c_build c_find c_variables c_replace c_plain_match
-}
-
-fn list(xs: &[u16]) -> List {
-    (xs.as_ptr(), xs.len())
-}
-
-/// Who answers: the library, plain Rust, plain C.
-#[derive(Clone, Copy)]
-enum By {
-    Library,
-    Rust,
-    C,
-}
-
-const ALL: [By; 3] = [By::Library, By::Rust, By::C];
-
-fn answered(r: Result<(u64, i32), baseline::Refusal>) -> Answer {
-    match r {
-        Ok((count, change)) => Answer { refusal: 0, change, place: 0, count },
-        Err((refusal, place)) => Answer { refusal: refusal as u64, change: 0, place, count: 0 },
-    }
-}
-
-/// Refusals 1 to 10 alone: the pass over row and table that every call with a table makes.
-fn pass(by: By, arities: &[u16], row: &[u16], table: &[u16]) -> Answer {
-    let ((a, k), (w, n), (t, m)) = (list(arities), list(row), list(table));
-    match by {
-        By::Library => unsafe { timed_pass(a, k, w, n, t, m) },
-        By::Rust => answered(baseline::check_given(arities, row, table).map(|()| (0, 0))),
-        By::C => unsafe { c_pass(a, k, w, n, t, m) },
-    }
-}
-
-fn build(by: By, arities: &[u16], row: &[u16], table: &mut [u16]) -> Answer {
-    let ((a, k), (w, n), (t, m)) = (list(arities), list(row), (table.as_mut_ptr(), table.len()));
-    match by {
-        By::Library => unsafe { timed_build(a, k, w, n, t, m) },
-        By::Rust => answered(baseline::build(arities, row, table).map(|()| (row.len() as u64, 0))),
-        By::C => unsafe { c_build(a, k, w, n, t, m) },
-    }
-}
-
-fn find(by: By, arities: &[u16], row: &[u16], table: &[u16], pattern: &[u16], out: &mut [u16]) -> Answer {
-    let ((a, k), (w, n), (t, m), (q, l), (o, p)) = (list(arities), list(row), list(table), list(pattern), (out.as_mut_ptr(), out.len()));
-    match by {
-        By::Library => unsafe { timed_find(a, k, w, n, t, m, q, l, o, p) },
-        By::Rust => answered(baseline::find(arities, row, table, pattern, out).map(|c| (c as u64, 0))),
-        By::C => unsafe { c_find(a, k, w, n, t, m, q, l, o, p) },
-    }
-}
-
-fn variables(by: By, arities: &[u16], row: &[u16], table: &[u16], pattern: &[u16], position: usize, out: &mut [u16]) -> Answer {
-    let ((a, k), (w, n), (t, m), (q, l), (o, p)) = (list(arities), list(row), list(table), list(pattern), (out.as_mut_ptr(), out.len()));
-    match by {
-        By::Library => unsafe { timed_variables(a, k, w, n, t, m, q, l, position, o, p) },
-        By::Rust => answered(baseline::variables(arities, row, table, pattern, position, out).map(|y| (y as u64, 0))),
-        By::C => unsafe { c_variables(a, k, w, n, t, m, q, l, position, o, p) },
-    }
-}
-
-fn replace(by: By, arities: &[u16], row: &mut [u16], table: &mut [u16], n: usize, new: &[u16], position: usize) -> Answer {
-    let ((a, k), (w, r), (t, m), (v, l)) = (list(arities), (row.as_mut_ptr(), row.len()), (table.as_mut_ptr(), table.len()), list(new));
-    match by {
-        By::Library => unsafe { timed_replace(a, k, w, r, t, m, n, v, l, position) },
-        By::Rust => answered(baseline::replace(arities, row, table, n, new, position).map(|(l, c)| (l as u64, c))),
-        By::C => unsafe { c_replace(a, k, w, r, t, m, n, v, l, position) },
-    }
-}
-
-fn plain_match(by: By, arities: &[u16], row: &[u16], pattern: &[u16], position: usize) -> Answer {
-    let ((a, k), (w, n), (q, l)) = (list(arities), list(row), list(pattern));
-    match by {
-        By::Library => unsafe { timed_plain_match(a, k, w, n, q, l, position) },
-        By::Rust => answered(baseline::plain_match(arities, row, pattern, position).map(|y| (y as u64, 0))),
-        By::C => unsafe { c_plain_match(a, k, w, n, q, l, position) },
-    }
-}
-
-// ---- rows
-
-/// A pseudo-random number, the same in every run.
-struct Random(u64);
-
-impl Random {
-    fn below(&mut self, n: usize) -> usize {
-        self.0 = self.0.wrapping_mul(6364136223846793005).wrapping_add(1442695040888963407);
-        ((self.0 >> 33) as usize) % n
-    }
-}
-
-/// Symbols of the alphabet: two leaves, then one symbol for each arity from 1 to 15.
-fn alphabet() -> Vec<u16> {
-    let mut a = vec![0, 0];
-    a.extend(1..=15);
-    a
-}
-
-const ONE: u16 = 2;
-const TWO: u16 = 3;
-const THREE: u16 = 4;
-const FIFTEEN: u16 = 16;
-
-/// A row of exactly n symbols: `next` chooses the arity at each place from what is left and what is open; a filler of
-/// arity 1 evens out the length.
-fn grown(n: usize, mut next: impl FnMut(usize, usize) -> u16) -> Vec<u16> {
-    let mut row = Vec::with_capacity(n);
-    let mut open = 1;
-    while row.len() < n {
-        let left = n - row.len();
-        let mut s = next(left, open);
-        let arity = |s: u16| if s < 2 { 0 } else { s as usize - 1 };
-        if open - 1 + arity(s) > left - 1 {
-            s = if open < left { ONE } else { 0 };
-        }
-        if open - 1 + arity(s) == 0 && left > 1 {
-            s = if left > 2 { TWO } else { ONE };
-        }
-        open = open - 1 + arity(s);
-        row.push(s);
-    }
-    row
-}
-
-fn full_binary(row: &mut Vec<u16>, n: usize) {
-    if n < 3 {
-        row.extend(std::iter::repeat(ONE).take(n - 1));
-        row.push(0);
-        return;
-    }
-    row.push(TWO);
-    full_binary(row, (n - 1) / 2);
-    full_binary(row, n - 1 - (n - 1) / 2);
-}
-
-fn row(shape: &str, n: usize, seed: u64) -> Vec<u16> {
-    let mut random = Random(seed);
-    match shape {
-        "chain" => grown(n, |_, _| ONE),
-        "left comb" => grown(n, |left, open| if open < left / 2 { TWO } else { 0 }),
-        "full binary" => {
-            let mut row = Vec::new();
-            full_binary(&mut row, n);
-            row
-        }
-        "15-ary" => grown(n, |_, open| if open < 2 { FIFTEEN } else { 0 }),
-        "random" => grown(n, |_, _| [0, 1, 0, ONE, TWO, THREE, 5][random.below(7)]),
-        // both children of every symbol are the same, at each height
-        _ => {
-            let mut row = vec![ONE];
-            full_binary(&mut row, n - 1);
-            row
-        }
-    }
-}
-
-const SHAPES: [&str; 6] = ["chain", "left comb", "full binary", "15-ary", "random", "equal subtrees"];
-
-/// A row with its table.
-#[derive(Clone)]
-struct Programme {
-    row: Vec<u16>,
-    table: Vec<u16>,
-}
-
-fn programme(row: Vec<u16>) -> Programme {
-    let mut table = vec![0; row.len()];
-    assert!(baseline::build(&alphabet(), &row, &mut table).is_ok(), "a row of {} symbols is no row", row.len());
-    Programme { row, table }
-}
-
-/// The rows of one shape that a call is timed on, for each length those that it meets one after the other. Random ones are
-/// several, 65,536 symbols in all (256 rows at most): a processor that meets one row again and again learns its branches by
-/// heart, and a short row sooner than a long one.
-struct Rows {
-    shape: &'static str,
-    lengths: Vec<usize>,
-    all: Vec<Vec<Programme>>,
-}
-
-impl Rows {
-    fn new(shape: &'static str, lengths: Vec<usize>) -> Rows {
-        let of = |&n: &usize| {
-            let many = if shape == "random" { (65_536 / n).min(256) } else { 1 };
-            (0..many).map(|k| programme(row(shape, n, 2026 + k as u64))).collect()
-        };
-        Rows { shape, all: lengths.iter().map(of).collect(), lengths }
-    }
-
-    /// For the k-th call at the l-th length.
-    fn at(&self, l: usize, k: usize) -> &Programme {
-        &self.all[l][k % self.all[l].len()]
-    }
-
-    /// The same with something changed in each.
-    fn with(&self, change: impl Fn(&mut Programme)) -> Rows {
-        let mut all = self.all.clone();
-        all.iter_mut().flatten().for_each(change);
-        Rows { shape: self.shape, lengths: self.lengths.clone(), all }
-    }
-
-    /// Something of each.
-    fn map<T>(&self, f: impl Fn(&Programme) -> T) -> Vec<Vec<T>> {
-        self.all.iter().map(|same| same.iter().map(&f).collect()).collect()
-    }
-}
-
-// ---- timing
-
-fn median(mut xs: Vec<f64>) -> f64 {
-    xs.sort_by(f64::total_cmp);
-    xs[xs.len() / 2]
-}
-
-/// What was measured: the call, what it was called on, the row's shape and length; nanoseconds of library, Rust and C; the library's
-/// time as a share of the Rust's, of the C's and of its own yardstick's (a pass or a build of the same rows); and its time for
-/// each symbol as a share of that at the length before, if there is one.
-pub struct Measured {
-    pub call: String,
-    pub on: String,
-    pub shape: String,
-    pub n: usize,
-    pub ns: [f64; 3],
-    pub of: [f64; 3],
-    pub growth: f64,
-}
-
-impl Measured {
-    fn line(&self) -> String {
-        let ([a, b, c], [r, s, t], g) = (self.ns, self.of, self.growth);
-        format!("{}\t{}\t{}\t{}\t{a}\t{b}\t{c}\t{r}\t{s}\t{t}\t{g}\n", self.call, self.on, self.shape, self.n)
-    }
-
-    fn of_line(line: &str) -> Measured {
-        let words: Vec<&str> = line.trim_end().split('\t').collect();
-        let number = |k: usize| words[k].parse().expect("a number");
-        Measured {
-            call: words[0].to_string(),
-            on: words[1].to_string(),
-            shape: words[2].to_string(),
-            n: words[3].parse().expect("a length"),
-            ns: [4, 5, 6].map(number),
-            of: [7, 8, 9].map(number),
-            growth: number(10),
-        }
-    }
-}
-
-/// The medians of several measurements of the same calls, in the same order.
-fn medians(turns: &[Vec<Measured>]) -> Vec<Measured> {
-    let one = |k: usize| {
-        let over = |f: &dyn Fn(&Measured) -> f64| median(turns.iter().map(|turn| f(&turn[k])).collect());
-        let (ns, of) = ([0, 1, 2].map(|by| over(&|m| m.ns[by])), [0, 1, 2].map(|by| over(&|m| m.of[by])));
-        Measured { ns, of, growth: over(&|m| m.growth), ..Measured::of_line(&turns[0][k].line()) }
-    };
-    (0..turns[0].len()).map(one).collect()
-}
-
-/// Nanoseconds of one of several calls.
-fn timed(calls: std::ops::Range<usize>, mut call: impl FnMut(usize) -> Answer) -> f64 {
-    let (began, many) = (Instant::now(), calls.len());
-    for k in calls {
-        black_box(call(k));
-    }
-    began.elapsed().as_nanos() as f64 / many as f64
-}
-
-struct Bench {
-    rounds: usize,
-    measured: Vec<Measured>,
-}
-
-impl Bench {
-    /// Times a call by each of the three, and the yardstick, at each length. All of them are timed in every round, one after the
-    /// other, and each share is the median of the shares in the rounds: what slows the machine down for a while slows all.
-    /// A call is told who is called, which length, and how many calls there were.
-    fn add(
-        &mut self,
-        [call, on]: [&str; 2],
-        rows: &Rows,
-        mut f: impl FnMut(By, usize, usize) -> Answer,
-        mut yardstick: impl FnMut(usize, usize) -> Answer,
-    ) {
-        let lengths = 0..rows.lengths.len();
-        let once: Vec<f64> = lengths.clone().map(|l| timed(0..1, |k| f(By::Library, l, k))).collect();
-        let mut times = vec![[(); 4].map(|()| Vec::new()); lengths.len()];
-        for round in 0..self.rounds {
-            for l in lengths.clone() {
-                let batch = (200_000.0 / once[l].max(50.0)).clamp(1.0, 4_000.0) as usize;
-                let calls = round * batch..(round + 1) * batch;
-                let said = ALL.map(|by| f(by, l, calls.start));
-                assert!(said[0] == said[1] && said[0] == said[2], "{call}, {on}: the three do not agree: {said:?}");
-                for by in ALL {
-                    times[l][by as usize].push(timed(calls.clone(), |k| f(black_box(by), l, k)));
-                }
-                times[l][3].push(timed(calls, |k| yardstick(l, k)));
-            }
-        }
-        let share = |f: &dyn Fn(usize) -> f64| median((0..self.rounds).map(f).collect());
-        for (l, &n) in rows.lengths.iter().enumerate() {
-            let t = &times[l];
-            let ns = [0, 1, 2].map(|by| median(t[by].clone()));
-            let of = [1, 2, 3].map(|by| share(&|round| t[0][round] / t[by][round]));
-            let each = |l: usize, round: usize| times[l][0][round] / rows.lengths[l] as f64;
-            let growth = if l == 0 { f64::NAN } else { share(&|round| each(l, round) / each(l - 1, round)) };
-            let [r, c, y] = of;
-            eprintln!("{call}, {on}, {}, {n}: {:.0} ns, {r:.2} of Rust, {c:.2} of C, {y:.2} of the yardstick, growth {growth:.2}", rows.shape, ns[0]);
-            let [call, on, shape] = [call, on, rows.shape].map(str::to_string);
-            self.measured.push(Measured { call, on, shape, n, ns, of, growth });
-        }
-    }
-}
-
-// ---- what is called
+use calls::{build, find, pass, plain_match, replace, variables, By, ALL};
+use rows::{alphabet, Programme, Rows, FIFTEEN, ONE, SHAPES, TWO};
+use timing::{medians, Bench, Measured};
 
 /// A symbol over as many of the same leaf as it has children.
 fn over(root: u16, leaf: u16) -> Vec<u16> {
@@ -378,6 +40,43 @@ fn patterns(shape: &str, p: &Programme) -> Vec<(&'static str, Vec<u16>)> {
     let (begin, size) = sizes.filter(|&(_, size)| size <= most).max_by_key(|&(_, size)| size).expect("a leaf");
     all.push(("long fixed stretch", p.row[begin..begin + size].to_vec()));
     all
+}
+
+/// Do all three do the same?
+fn same<T: PartialEq>(what: &str, mut call: impl FnMut(By) -> T) {
+    let [library, rust, c] = ALL.map(&mut call);
+    assert!(library == rust && library == c, "{what}: the three do not answer or write the same");
+}
+
+/// Before anything is timed: all three answer and write the same, on every row.
+fn agree(rows: &Rows) {
+    let arities = alphabet();
+    for p in rows.all.iter().flatten() {
+        let n = p.row.len();
+        let buffer = || vec![7; n + 8];
+        same("build", |by| {
+            let mut table = buffer();
+            (build(by, &arities, &p.row, &mut table), table)
+        });
+        for (on, pattern) in patterns(rows.shape, p) {
+            same(on, |by| {
+                let mut out = buffer();
+                (find(by, &arities, &p.row, &p.table, &pattern, &mut out), out)
+            });
+        }
+        same("variables", |by| {
+            let mut out = vec![7; 40];
+            (variables(by, &arities, &p.row, &p.table, &[65280], n / 2, &mut out), out)
+        });
+        for new in [vec![1], vec![ONE, ONE, TWO, 0, 1]] {
+            same("replace", |by| {
+                let (mut row, mut table) = (buffer(), buffer());
+                row[..n].copy_from_slice(&p.row);
+                table[..n].copy_from_slice(&p.table);
+                (replace(by, &arities, &mut row, &mut table, n, &new, n / 2), row, table)
+            });
+        }
+    }
 }
 
 /// Build, find and variables. The yardstick is a pass.
@@ -472,6 +171,7 @@ fn time_all(quick: bool) -> Vec<Measured> {
     let mut bench = Bench { rounds: if quick { 15 } else { 51 }, measured: Vec::new() };
     for shape in SHAPES {
         let rows = Rows::new(shape, lengths.clone());
+        agree(&rows);
         searches(&mut bench, &rows);
         plain(&mut bench, &rows);
         refusals(&mut bench, &rows);

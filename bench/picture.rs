@@ -1,6 +1,6 @@
 //! What was measured, as Markdown tables and as a picture.
 
-use crate::Measured;
+use crate::timing::Measured;
 use std::fmt::Write;
 
 /// The worst ratio of each call over the row shapes, by length; then every measurement.

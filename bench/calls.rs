@@ -1,0 +1,109 @@
+//! The calls, by the library, in plain Rust and in plain C.
+
+use crate::baseline;
+
+#[repr(C)]
+#[derive(Clone, Copy, Debug, PartialEq)]
+pub struct Answer {
+    pub refusal: u64,
+    pub change: i32,
+    pub place: u64,
+    pub count: u64,
+}
+
+type List = (*const u16, usize);
+
+macro_rules! calls {
+    ($($pass:ident $build:ident $find:ident $variables:ident $replace:ident $plain:ident)*) => { extern "C" { $(
+        fn $pass(arities: *const u16, symbols: usize, row: *const u16, n: usize, table: *const u16, room: usize) -> Answer;
+        fn $build(arities: *const u16, symbols: usize, row: *const u16, n: usize, table: *mut u16, room: usize) -> Answer;
+        fn $find(arities: *const u16, symbols: usize, row: *const u16, n: usize, table: *const u16, room: usize,
+            pattern: *const u16, m: usize, out: *mut u16, places: usize) -> Answer;
+        fn $variables(arities: *const u16, symbols: usize, row: *const u16, n: usize, table: *const u16, room: usize,
+            pattern: *const u16, m: usize, position: usize, out: *mut u16, places: usize) -> Answer;
+        fn $replace(arities: *const u16, symbols: usize, row: *mut u16, row_room: usize, table: *mut u16, room: usize,
+            n: usize, replacement: *const u16, m: usize, position: usize) -> Answer;
+        fn $plain(arities: *const u16, symbols: usize, row: *const u16, n: usize, pattern: *const u16, m: usize,
+            position: usize) -> Answer;
+    )* } };
+}
+calls! {
+    timed_pass timed_build timed_find timed_variables timed_replace timed_plain_match
+    c_pass c_build c_find c_variables c_replace c_plain_match
+}
+
+fn list(xs: &[u16]) -> List {
+    (xs.as_ptr(), xs.len())
+}
+
+/// Who answers: the library, plain Rust, plain C.
+#[derive(Clone, Copy)]
+pub enum By {
+    Library,
+    Rust,
+    C,
+}
+
+pub const ALL: [By; 3] = [By::Library, By::Rust, By::C];
+
+fn answered(r: Result<(u64, i32), baseline::Refusal>) -> Answer {
+    match r {
+        Ok((count, change)) => Answer { refusal: 0, change, place: 0, count },
+        Err((refusal, place)) => Answer { refusal: refusal as u64, change: 0, place, count: 0 },
+    }
+}
+
+/// Refusals 1 to 10 alone: the pass over row and table that every call with a table makes.
+pub fn pass(by: By, arities: &[u16], row: &[u16], table: &[u16]) -> Answer {
+    let ((a, k), (w, n), (t, m)) = (list(arities), list(row), list(table));
+    match by {
+        By::Library => unsafe { timed_pass(a, k, w, n, t, m) },
+        By::Rust => answered(baseline::check_given(arities, row, table).map(|()| (0, 0))),
+        By::C => unsafe { c_pass(a, k, w, n, t, m) },
+    }
+}
+
+pub fn build(by: By, arities: &[u16], row: &[u16], table: &mut [u16]) -> Answer {
+    let ((a, k), (w, n), (t, m)) = (list(arities), list(row), (table.as_mut_ptr(), table.len()));
+    match by {
+        By::Library => unsafe { timed_build(a, k, w, n, t, m) },
+        By::Rust => answered(baseline::build(arities, row, table).map(|()| (row.len() as u64, 0))),
+        By::C => unsafe { c_build(a, k, w, n, t, m) },
+    }
+}
+
+pub fn find(by: By, arities: &[u16], row: &[u16], table: &[u16], pattern: &[u16], out: &mut [u16]) -> Answer {
+    let ((a, k), (w, n), (t, m), (q, l), (o, p)) = (list(arities), list(row), list(table), list(pattern), (out.as_mut_ptr(), out.len()));
+    match by {
+        By::Library => unsafe { timed_find(a, k, w, n, t, m, q, l, o, p) },
+        By::Rust => answered(baseline::find(arities, row, table, pattern, out).map(|c| (c as u64, 0))),
+        By::C => unsafe { c_find(a, k, w, n, t, m, q, l, o, p) },
+    }
+}
+
+pub fn variables(by: By, arities: &[u16], row: &[u16], table: &[u16], pattern: &[u16], position: usize, out: &mut [u16]) -> Answer {
+    let ((a, k), (w, n), (t, m), (q, l), (o, p)) = (list(arities), list(row), list(table), list(pattern), (out.as_mut_ptr(), out.len()));
+    match by {
+        By::Library => unsafe { timed_variables(a, k, w, n, t, m, q, l, position, o, p) },
+        By::Rust => answered(baseline::variables(arities, row, table, pattern, position, out).map(|y| (y as u64, 0))),
+        By::C => unsafe { c_variables(a, k, w, n, t, m, q, l, position, o, p) },
+    }
+}
+
+pub fn replace(by: By, arities: &[u16], row: &mut [u16], table: &mut [u16], n: usize, new: &[u16], position: usize) -> Answer {
+    let ((a, k), (w, r), (t, m), (v, l)) = (list(arities), (row.as_mut_ptr(), row.len()), (table.as_mut_ptr(), table.len()), list(new));
+    match by {
+        By::Library => unsafe { timed_replace(a, k, w, r, t, m, n, v, l, position) },
+        By::Rust => answered(baseline::replace(arities, row, table, n, new, position).map(|(l, c)| (l as u64, c))),
+        By::C => unsafe { c_replace(a, k, w, r, t, m, n, v, l, position) },
+    }
+}
+
+pub fn plain_match(by: By, arities: &[u16], row: &[u16], pattern: &[u16], position: usize) -> Answer {
+    let ((a, k), (w, n), (q, l)) = (list(arities), list(row), list(pattern));
+    match by {
+        By::Library => unsafe { timed_plain_match(a, k, w, n, q, l, position) },
+        By::Rust => answered(baseline::plain_match(arities, row, pattern, position).map(|y| (y as u64, 0))),
+        By::C => unsafe { c_plain_match(a, k, w, n, q, l, position) },
+    }
+}
