@@ -6,13 +6,12 @@ use mathlib.Core.List.{List, [], _∷_}
 use mathlib.Core.Bool.{Bool, true, false}
 use native.Mathlib.Omega.{arith}
 use native.Mathlib.Nat.{add-zero, zero-add}
-use borrow.Author.Count.{below-more}
 use borrow.Author.Tests.{eq-eqb, eqb-true}
 use lib.Dec.{eqb}
 use lib.ListN.{getD, length, take, drop}
-use lib.Seq.{drop-cons}
+use lib.Seq.{drop-cons, drop-drop}
 use Rattle.rows.specs.Row.{pick}
-use Rattle.patterns.specs.Walk.{sameSymbol, sameFront, SameAt}
+use Rattle.patterns.specs.Walk.{sameSymbol, sameFront}
 
 pub front-same : (xs : List ℕ) → sameFront xs xs ≡ length xs
 unfolding sameFront
@@ -82,26 +81,52 @@ module _ (w : List ℕ) (a b n i : ℕ) (ha : a + n ≤ length w) (hb : b + n �
   unfolding sameFront run
   counted-end l = let z : n - i ≡ 0 = omega arith in rw z (add-zero i)
 
--- m more symbols are the same
-pub counted-many : (w : List ℕ) (a b n i m : ℕ) → a + n ≤ length w → b + n ≤ length w → i + m ≤ n
-    → SameAt w (a + i) (b + i) m → counted w a b n i ≡ counted w a b n (i + m)
-counted-many w a b n i zero ha hb h s = ap (counted w a b n) (sym (add-zero i))
-counted-many w a b n i (suc m) ha hb h s =
-    let next : i + m + 1 ≡ i + suc m = omega arith in
-    let left : a + i + m ≡ a + (i + m) = omega arith in
-    let right : b + i + m ≡ b + (i + m) = omega arith in
-    let last = subst (λ (x : ℕ). sameSymbol (getD w x 0) (getD w (b + (i + m)) 0) ≡ true) left
-    (subst (λ (y : ℕ). sameSymbol (getD w (a + i + m) 0) (getD w y 0) ≡ true) right (s m (omega arith))) in
-    counted-many w a b n i m ha hb (omega arith) (λ k l. s k (omega arith))
-    ∙ counted-more w a b n (i + m) ha hb (omega arith) last
-    ∙ ap (counted w a b n) next
+-- a stretch of m symbols at the front: all of them are the same, and counting goes on behind it
+front-long : (m n : ℕ) (xs ys : List ℕ) → m ≤ n → sameFront (take m xs) (take m ys) ≡ m
+    → sameFront (take n xs) (take n ys) ≡ m + sameFront (take (n - m) (drop m xs)) (take (n - m) (drop m ys))
+unfolding sameFront
+front-long zero n xs ys h q = let z : n - 0 ≡ n = omega arith in rw z (sym (zero-add (sameFront (take n xs) (take n ys))))
+front-long (suc m) zero xs ys h q = absurd (omega arith)
+front-long (suc m) (suc n) [] ys h q = absurd (omega arith)
+front-long (suc m) (suc n) (x ∷ xs) [] h q = absurd (omega arith)
+front-long (suc m) (suc n) (x ∷ xs) (y ∷ ys) h q = go (eqb x y) q (front-long m n xs ys (omega arith))
+  where
+    go : (c : Bool) → pick c (suc (sameFront (take m xs) (take m ys))) 0 ≡ suc m
+        → (sameFront (take m xs) (take m ys) ≡ m → sameFront (take n xs) (take n ys) ≡ m + sameFront (take (n - m) (drop m xs)) (take (n - m) (drop m ys)))
+        → pick c (suc (sameFront (take n xs) (take n ys))) 0 ≡ suc m + sameFront (take (suc n - suc m) (drop m xs)) (take (suc n - suc m) (drop m ys))
+    go true r ih = let z : suc n - suc m ≡ n - m = omega arith in rw z (omega (arith, ih (omega arith)))
+    go false r ih = absurd (omega arith)
 
--- what is counted up to i, and what is left from there on
-pub counted-split : (w : List ℕ) (a b n i : ℕ)
-    → counted w a b n i ≡ i + sameFront (take (n - i) (drop (a + i) w)) (take (n - i) (drop (b + i) w))
-unfolding run
-counted-split w a b n i = refl
+-- or one differs, and counting ends before the stretch does
+front-short : (m n : ℕ) (xs ys : List ℕ) → m ≤ n → sameFront (take m xs) (take m ys) < m → sameFront (take n xs) (take n ys) ≡ sameFront (take m xs) (take m ys)
+unfolding sameFront
+front-short zero n xs ys h q = absurd (omega arith)
+front-short (suc m) zero xs ys h q = absurd (omega arith)
+front-short (suc m) (suc n) [] ys h q = refl
+front-short (suc m) (suc n) (x ∷ xs) [] h q = refl
+front-short (suc m) (suc n) (x ∷ xs) (y ∷ ys) h q = go (eqb x y) q (front-short m n xs ys (omega arith))
+  where
+    go : (c : Bool) → pick c (suc (sameFront (take m xs) (take m ys))) 0 < suc m
+        → (sameFront (take m xs) (take m ys) < m → sameFront (take n xs) (take n ys) ≡ sameFront (take m xs) (take m ys))
+        → pick c (suc (sameFront (take n xs) (take n ys))) 0 ≡ pick c (suc (sameFront (take m xs) (take m ys))) 0
+    go true r ih = ap suc (ih (omega arith))
+    go false r ih = refl
 
--- one symbol more of a stretch is the same
-pub same-next : (w : List ℕ) (a b k : ℕ) → SameAt w a b k → sameSymbol (getD w (a + k) 0) (getD w (b + k) 0) ≡ true → SameAt w a b (k + 1)
-same-next w a b k before q = below-more (λ (j : ℕ). sameSymbol (getD w (a + j) 0) (getD w (b + j) 0) ≡ true) k before q
+-- r of a stretch of m symbols from place i on are the same
+module _ (w : List ℕ) (a b n i m r : ℕ) (h : i + m ≤ n) (q : r ≡ sameFront (take m (drop (a + i) w)) (take m (drop (b + i) w))) where
+  pub stretch-same : r ≡ m → counted w a b n i ≡ counted w a b n (i + m)
+  unfolding run
+  stretch-same z =
+      let left : n - i - m ≡ n - (i + m) = omega arith in
+      let from-a : a + i + m ≡ a + (i + m) = omega arith in
+      let from-b : b + i + m ≡ b + (i + m) = omega arith in
+      ap (_+_ i) (front-long m (n - i) (drop (a + i) w) (drop (b + i) w) (omega arith) (sym q ∙ z))
+      ∙ rw (drop-drop m (a + i) w, drop-drop m (b + i) w, left, from-a, from-b) (omega arith)
+
+  pub stretch-other : r < m → counted w a b n i ≡ i + r
+  unfolding run
+  stretch-other l = ap (_+_ i) (front-short m (n - i) (drop (a + i) w) (drop (b + i) w) (omega arith) (subst (λ (x : ℕ). x < m) q l) ∙ sym q)
+
+  pub stretch-last : m ≡ n - i → counted w a b n i ≡ i + r
+  unfolding run
+  stretch-last z = ap (_+_ i) (ap (λ (x : ℕ). sameFront (take x (drop (a + i) w)) (take x (drop (b + i) w))) (sym z) ∙ sym q)

@@ -25,10 +25,6 @@ sameFront [] ys = 0
 sameFront (x ∷ xs) [] = 0
 sameFront (x ∷ xs) (y ∷ ys) = pick (sameSymbol x y) (suc (sameFront xs ys)) 0
 
--- the first n symbols from a on are the same as those from b on
-abbrev pub SameAt : List ℕ → ℕ → ℕ → ℕ → Type 0
-SameAt w a b n = (k : ℕ) → k < n → sameSymbol (getD w (a + k) 0) (getD w (b + k) 0) ≡ true
-
 -- how far a walk comes: to a mismatch at a row position, or to a row position with its marks
 pub data Outcome : Type 0 where
   misses : ℕ → Outcome

@@ -8,7 +8,7 @@ ghost use Rattle.rows.specs.Buffers.{written};
 ghost use Rattle.rows.specs.Refusals.{pattern};
 ghost use Rattle.patterns.specs.Pattern.{leaf};
 ghost use Rattle.patterns.specs.Searches.{Checked, Searchable, Next, Counts, Lists, Room, Binds};
-ghost use Rattle.patterns.specs.Walk.{sameSymbol, sameFront, SameAt, meets, steps, Ends, MarksIn, Meetable, Done, markBegin, markEnd, markSpans};
+ghost use Rattle.patterns.specs.Walk.{sameSymbol, sameFront, meets, steps, Ends, MarksIn, Meetable, Done, markBegin, markEnd, markSpans};
 use rows::Check;
 use rows::Leaves;
 use rows::Refusal;
@@ -50,40 +50,7 @@ pub fn same(x: u16, y: u16) -> bool
     x == y
 }
 
-// Are the eight symbols from a on the same as those from b on? Left at the first that differs. The loop's end is known, so the
-// compiler writes it out.
-fn same_stretch(row: &[u16], a: usize, b: usize) -> bool
-    requires { ⌜ (a + 8 ≤ length (now row)) × (b + 8 ≤ length (now row)) ⌝ }
-    ensures { λ r. ⌜ (r ≡ true → SameAt (now (row .entry)) a b 8) ⌝ }
-{
-    let mut k = 0;
-    while k < 8 {
-        if same(row[a + k], row[b + k]) {
-            k += 1;
-        } else {
-            return false;
-        }
-    }
-    true
-}
-
-// How many of the n symbols from a on are the same as those from b on, in whole stretches of eight.
-fn count_stretches(row: &[u16], a: usize, b: usize, n: usize) -> usize
-    requires { ⌜ (a + n ≤ length (now row)) × (b + n ≤ length (now row)) ⌝ }
-    ensures { λ r. ⌜ (r ≤ n) × (sameFront (take n (drop a (now (row .entry)))) (take n (drop b (now (row .entry)))) ≡ r + sameFront (take (n - r) (drop (a + r) (now (row .entry)))) (take (n - r) (drop (b + r) (now (row .entry))))) ⌝ }
-{
-    let mut i = 0;
-    while i + 8 <= n {
-        if same_stretch(row, a + i, b + i) {
-            i += 8;
-        } else {
-            return i;
-        }
-    }
-    i
-}
-
-// The same, symbol by symbol: left at the first that differs.
+// How many of the n symbols from a on are the same as those from b on: left at the first that differs.
 fn count_singly(row: &[u16], a: usize, b: usize, n: usize) -> usize
     requires { ⌜ (a + n ≤ length (now row)) × (b + n ≤ length (now row)) ⌝ }
     ensures { λ r. ⌜ r ≡ sameFront (take n (drop a (now (row .entry)))) (take n (drop b (now (row .entry)))) ⌝ }
@@ -99,12 +66,19 @@ fn count_singly(row: &[u16], a: usize, b: usize, n: usize) -> usize
     i
 }
 
-// How many of the n symbols from a on are the same as those from b on: left at the first that differs.
+// The same, eight symbols a turn: the compiler writes a count of eight out.
 fn count_same(row: &[u16], a: usize, b: usize, n: usize) -> usize
     requires { ⌜ (a + n ≤ length (now row)) × (b + n ≤ length (now row)) ⌝ }
     ensures { λ r. ⌜ r ≡ sameFront (take n (drop a (now (row .entry)))) (take n (drop b (now (row .entry)))) ⌝ }
 {
-    let i = count_stretches(row, a, b, n);
+    let mut i = 0;
+    while i + 8 <= n {
+        let k = count_singly(row, a + i, b + i, 8);
+        if k < 8 {
+            return i + k;
+        }
+        i += 8;
+    }
     i + count_singly(row, a + i, b + i, n - i)
 }
 
