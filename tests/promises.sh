@@ -22,7 +22,7 @@ for edit in $named; do
     failed=$((failed + 1))
   fi
 done
-for file in crates/sparrowhem/must-fail/*.edit crates/host/must-fail/*.edit; do
+for file in crates/{checks,sparrowhem,host}/must-fail/*.edit; do
   edit=${file#crates/}
   edit=${edit/must-fail\//}
   if grep -qxF "$edit" <<<"$named"; then

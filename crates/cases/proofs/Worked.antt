@@ -12,11 +12,11 @@ use Rattle.patterns.specs.Walk.{sameFront, meets, takes, steps, walk, below}
 use Rattle.buffers.specs.Renewed.{renewed}
 use Rattle.edits.specs.Put.{put}
 use Rattle.edits.specs.Replace.{grown}
-use Rattle.sparrowhem.specs.Edit.{heldCheck, replaceCheck}
-use Rattle.sparrowhem.specs.Build.{buildCheck}
-use Rattle.sparrowhem.specs.Search.{searchCheck, output, findCheck, bindCheck}
+use Rattle.checks.specs.Checks.{heldCheck, replaceCheck}
+use Rattle.checks.specs.Checks.{buildCheck}
+use Rattle.checks.specs.Checks.{searchCheck, output, findCheck, variablesCheck}
 use Rattle.cases.specs.Cases.{Cases}
 
 pub worked : Cases
-unfolding table parse over first rest ends size verdict sized written alphabetSize aritiesFit someLeaf alphabet sizes symbols differs fresh kept buildCheck subtrees reading given pattern position leaf faced span spansBelow sameFront meets takes steps walk below searchCheck output findCheck bindCheck prefix replacement renewed put grown heldCheck replaceCheck
+unfolding table parse over first rest ends size verdict sized written alphabetSize aritiesFit someLeaf alphabet sizes symbols differs fresh kept buildCheck subtrees reading given pattern position leaf faced span spansBelow sameFront meets takes steps walk below searchCheck output findCheck variablesCheck prefix replacement renewed put grown heldCheck replaceCheck
 worked = refl

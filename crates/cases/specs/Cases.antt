@@ -15,9 +15,11 @@ use Rattle.patterns.specs.Answers.{spans}
 use Rattle.patterns.specs.Walk.{comesThrough, listOf}
 use Rattle.buffers.specs.Renewed.{renewed}
 use Rattle.edits.specs.Put.{changed}
-use Rattle.sparrowhem.specs.Build.{buildCheck}
-use Rattle.sparrowhem.specs.Search.{findCheck, found, bindCheck, bound}
-use Rattle.sparrowhem.specs.Edit.{replaceCheck, answered}
+use Rattle.checks.specs.Checks.{buildCheck}
+use Rattle.checks.specs.Checks.{findCheck, variablesCheck}
+use Rattle.sparrowhem.specs.Search.{found, bound}
+use Rattle.checks.specs.Checks.{replaceCheck}
+use Rattle.sparrowhem.specs.Edit.{answered}
 use Rattle.sparrowhem.specs.declared.edit.Replaced.{Replaced}
 use Rattle.sparrowhem.specs.declared.edit.Replaced.the-variants.{Done, Refused as ReplaceRefused}
 use Rattle.sparrowhem.specs.declared.search.Found.{Found}
@@ -67,8 +69,8 @@ said (find A w t q y) =
     counted (found (findCheck A w t q (length (listOf A w q)) (length y)) (length (listOf A w q)))
     ∷ after (findCheck A w t q (length (listOf A w q)) (length y)) (written y 0 (listOf A w q)) y ∷ []
 said (variables A w t q p y) =
-    matched (bound (bindCheck A w t q p (length y)) (comesThrough w (tableOf A w) q p))
-    ∷ after (bindCheck A w t q p (length y)) (pick (comesThrough w (tableOf A w) q p) (written y 0 (spans A w q p)) y) y ∷ []
+    matched (bound (variablesCheck A w t q p (length y)) (comesThrough w (tableOf A w) q p))
+    ∷ after (variablesCheck A w t q p (length y)) (pick (comesThrough w (tableOf A w) q p) (written y 0 (spans A w q p)) y) y ∷ []
 said (replace A row t n v p) =
     replaced (answered (replaceCheck A row t n v p) (size (changed A (take n row) p v)) n)
     ∷ after (replaceCheck A row t n v p) (renewed row n 65535 (prefix (changed A (take n row) p v))) row

@@ -24,9 +24,11 @@ use Rattle.buffers.proofs.Renewed.{length-renewed}
 use Rattle.edits.specs.Put.{changed}
 use Rattle.edits.specs.Replace.{grown}
 use Rattle.edits.proofs.Place.{grown-fine}
-use Rattle.sparrowhem.specs.Edit.{heldCheck, replaceCheck, answered, Replacement}
+use Rattle.checks.specs.Checks.{heldCheck, replaceCheck}
+use Rattle.sparrowhem.specs.Edit.{answered, Replacement}
 use Rattle.sparrowhem.specs.declared.edit.Replaced.{Replaced}
-use Rattle.sparrowhem.specs.Search.{searchCheck, output, findCheck, found, Finds}
+use Rattle.checks.specs.Checks.{searchCheck, output, findCheck}
+use Rattle.sparrowhem.specs.Search.{found, Finds}
 use Rattle.sparrowhem.specs.declared.search.Found.{Found}
 use Rattle.wire.specs.Wire.{numbers}
 use Rattle.lent.specs.declared.Answer.{Answer}

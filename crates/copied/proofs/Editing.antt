@@ -19,7 +19,8 @@ use Rattle.rows.specs.declared.Refusal.the-variants.{Replacement as InReplaceme
 use Rattle.buffers.specs.Renewed.{renewed}
 use Rattle.edits.specs.Put.{changed}
 use Rattle.edits.specs.Replace.{grown}
-use Rattle.sparrowhem.specs.Edit.{replaceCheck, answered as outcomeOf, Replacement}
+use Rattle.checks.specs.Checks.{replaceCheck}
+use Rattle.sparrowhem.specs.Edit.{answered as outcomeOf, Replacement}
 use Rattle.sparrowhem.specs.declared.edit.Replaced.{Replaced}
 use Rattle.sparrowhem.specs.declared.edit.Replaced.the-variants.{Done, Refused as Unreplaced}
 use Rattle.wire.specs.Wire.{numbers, bytesOf, Bytes}

@@ -22,10 +22,12 @@ use Rattle.rows.specs.declared.Fault.the-variants.{Long}
 use Rattle.patterns.proofs.Listing.{room-enough}
 use Rattle.wire.specs.Wire.{numbers, bytesOf, Bytes}
 use Rattle.wire.proofs.Numbers.{write-read, written-again}
-use Rattle.sparrowhem.specs.Search.{searchCheck, output, findCheck, found, Finds}
+use Rattle.checks.specs.Checks.{searchCheck, output, findCheck}
+use Rattle.sparrowhem.specs.Search.{found, Finds}
 use Rattle.sparrowhem.specs.declared.search.Found.{Found}
 use Rattle.sparrowhem.specs.declared.search.Found.the-variants.{Matches, Refused as Unfound}
-use Rattle.sparrowhem.proofs.Searching.{search-checked, finds-refused}
+use Rattle.checks.proofs.Passing.{search-checked}
+use Rattle.sparrowhem.proofs.Searching.{finds-refused}
 use Rattle.lent.specs.Answer.{answered, refused, refusedBy, findAnswer}
 use Rattle.lent.specs.Calls.{FoundBytes}
 use Rattle.lent.specs.declared.Answer.{Answer}

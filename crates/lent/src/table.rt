@@ -1,7 +1,7 @@
 // Build on lent bytes. Beside them it keeps the ends of the trees that stand side by side, in at most 32 KiB of stack.
 ghost use mathlib.Core.Path.{_≡_};
 ghost use Rattle.wire.specs.Wire.{numbers};
-ghost use Rattle.sparrowhem.specs.Build.{buildCheck};
+ghost use Rattle.checks.specs.Checks.{buildCheck};
 ghost use Rattle.lent.specs.Calls.{BuiltBytes};
 use crate::Answer;
 use rows::Check;

@@ -40,11 +40,16 @@ use Rattle.buffers.specs.Renewed.{renewed}
 use Rattle.edits.specs.Put.{changed, extent}
 use Rattle.edits.specs.Replace.{grown}
 use Rattle.edits.proofs.Put.{below, put-below, size-single}
-use Rattle.sparrowhem.specs.Build.{buildCheck, Built}
-use Rattle.sparrowhem.specs.Search.{searchCheck, output, findCheck, found, Finds, bindCheck, bound, Binds}
-use Rattle.sparrowhem.specs.Edit.{heldCheck, replaceCheck, answered, Replacement}
-use Rattle.sparrowhem.specs.Parts.{subtreeCheck, subtreePart, subtreeAnswer, placed, ofRecord, newerCheck, FirstMatch, NoMatch, NewestSays, newestPart, NewerPart}
-use Rattle.sparrowhem.specs.Plain.{rowCheck, plainCheck, PlainSays}
+use Rattle.checks.specs.Checks.{buildCheck}
+use Rattle.sparrowhem.specs.Build.{Built}
+use Rattle.checks.specs.Checks.{searchCheck, output, findCheck, variablesCheck}
+use Rattle.sparrowhem.specs.Search.{found, Finds, bound, Binds}
+use Rattle.checks.specs.Checks.{heldCheck, replaceCheck}
+use Rattle.sparrowhem.specs.Edit.{answered, Replacement}
+use Rattle.checks.specs.Checks.{subtreeCheck, ofRecord, newerCheck}
+use Rattle.sparrowhem.specs.Parts.{subtreePart, subtreeAnswer, placed, FirstMatch, NoMatch, NewestSays, newestPart, NewerPart}
+use Rattle.checks.specs.Checks.{rowCheck, plainCheck}
+use Rattle.sparrowhem.specs.Plain.{PlainSays}
 use Rattle.sparrowhem.specs.declared.search.Found.{Found}
 use Rattle.sparrowhem.specs.declared.search.Found.the-variants.{Matches, Refused as FindRefused}
 use Rattle.sparrowhem.specs.declared.search.Bound.{Bound}
@@ -56,10 +61,11 @@ use Rattle.sparrowhem.specs.declared.parts.Newest.{Newest}
 use Rattle.sparrowhem.specs.declared.parts.Newest.the-variants.{Corrected, OnRecord, Nowhere, Refused as NewestRefused}
 use Rattle.sparrowhem.specs.declared.matcher.Fits.{Fits}
 use Rattle.sparrowhem.specs.declared.matcher.Fits.the-variants.{Yes, No, Refused as PlainRefused}
-use Rattle.sparrowhem.proofs.Handing.{clash, position-fine}
-use Rattle.sparrowhem.proofs.Searching.{pattern-fine, search-checked, finds-matches}
-use Rattle.sparrowhem.proofs.Preferring.{newer-checked}
-use Rattle.sparrowhem.proofs.Replacing.{held-fine, replacement-fine, replacement-whole, replace-held, replace-able}
+use Rattle.checks.proofs.Passing.{clash, position-fine}
+use Rattle.checks.proofs.Passing.{pattern-fine, search-checked}
+use Rattle.sparrowhem.proofs.Searching.{finds-matches}
+use Rattle.checks.proofs.Passing.{newer-checked}
+use Rattle.checks.proofs.Replacing.{held-fine, replacement-fine, replacement-whole, replace-held, replace-able}
 use Rattle.promises.specs.Runs.{edits, Holds}
 use Rattle.promises.specs.Edits.{movedSpan}
 use Rattle.promises.specs.Demands.{Build-one, Find-one, Variables-one, Replace-one, Subtree-one, Newer-one, Plain-one, Then-first, Build-order, Find-order, Variables-order, Replace-order, Subtree-order, Newer-order, Plain-order, FirstStale, Stale-first, Stale-check, Stale-number, StaleAt, Find-stale, Variables-stale, Replace-stale, Subtree-stale, Newer-stale, Rows-accepted, Patterns-accepted, Replacements-accepted, Trees, Turns, Find-exactly, Chosen, Has, Variables-exactly, Fits-exactly, Plain-exactly, After-run, Beside, Variables-stay, Find-stays, Plain-stays, Demands}
@@ -107,8 +113,8 @@ find-one A w t q y =
     }
 
 -- what is not refused
-bind-fine : (A w t q : List ℕ) (p m : ℕ) → bindCheck A w t q p m ≡ Fine → Checked A w t q × (p < length w)
-unfolding bindCheck
+bind-fine : (A w t q : List ℕ) (p m : ℕ) → variablesCheck A w t q p m ≡ Fine → Checked A w t q × (p < length w)
+unfolding variablesCheck
 bind-fine A w t q p m e =
     let both = both-fine (searchCheck A w t q) (position (length w) p then output 32 m) e in
     (search-checked A w t q (both .0), position-fine (length w) p (both-fine (position (length w) p) (output 32 m) (both .1) .0))
@@ -116,7 +122,7 @@ bind-fine A w t q p m e =
 pub variables-one : Variables-one
 variables-one A w t q p y =
     let b : Bool = comesThrough w (table A w) q p in
-    let c : Check = bindCheck A w t q p (length y) in
+    let c : Check = variablesCheck A w t q p (length y) in
     let some : Bound × List ℕ = (bound c b, after c (pick b (written y 0 (spans A w q p)) y) y) in
     let here : Binds A w t q p y (some .0) (some .1) =
     record {
@@ -294,11 +300,11 @@ find-order A w t q y r y′ f x =
     through-both r _ (FindRefused x) _ _ (Refused x) (f .answer) (search-on A w t q (output n (length y))) (found-first (findCheck A w t q n (length y)) n x)
 
 pub variables-order : Variables-order
-unfolding bindCheck
+unfolding variablesCheck
 variables-order A w t q p y r y′ b x =
     through-both r _ (BindRefused x) _ _ (Refused x) (b .answer)
     (search-on A w t q (position (length w) p then output 32 (length y)))
-    (bound-first (bindCheck A w t q p (length y)) (b .matched) x)
+    (bound-first (variablesCheck A w t q p (length y)) (b .matched) x)
 
 pub replace-order : Replace-order
 unfolding replaceCheck heldCheck
@@ -597,15 +603,15 @@ module _ (A w t q : List ℕ) (p : ℕ) (y y′ : List ℕ) where
   binds-later (BindRefused x) b = ap (drop 32) (variables-refused A w t q p y x y′ b)
 
   -- where nothing is refused, a match is told by matched, and no match by unmatched
-  binds-told : (r : Bound) → Binds A w t q p y r y′ → bindCheck A w t q p (length y) ≡ Fine
+  binds-told : (r : Bound) → Binds A w t q p y r y′ → variablesCheck A w t q p (length y) ≡ Fine
       → ((r ≡ Matched) ↔ MatchesAt A w q p) × ((r ≡ Unmatched) ↔ (MatchesAt A w q p → ⊥))
   binds-told Matched b e = let m = variables-matched A w t q p y y′ b .0 in ((λ z. m, λ z. refl), (λ z. (let k : _≡_ {A = ℕ} 0 1 = cc in absurd (omega arith)), λ n. absurd (n m)))
   binds-told Unmatched b e = let n = variables-unmatched A w t q p y y′ b .0 in ((λ z. (let k : _≡_ {A = ℕ} 0 1 = cc in absurd (omega arith)), λ m. absurd (n m)), (λ z. n, λ z. refl))
-  binds-told (BindRefused x) b e = absurd (clash (bindCheck A w t q p (length y)) x e (bound-first _ (b .matched) x .0 (sym (b .answer))))
+  binds-told (BindRefused x) b e = absurd (clash (variablesCheck A w t q p (length y)) x e (bound-first _ (b .matched) x .0 (sym (b .answer))))
 
 pub variables-exactly : Variables-exactly
 variables-exactly A w t q p y r y′ b answers =
-    let fine : bindCheck A w t q p (length y) ≡ Fine = go (bindCheck A w t q p (length y)) refl in
+    let fine : variablesCheck A w t q p (length y) ≡ Fine = go (variablesCheck A w t q p (length y)) refl in
     let c = bind-fine A w t q p (length y) fine in
     let x = trees-of A w t q (c .0) in
     let told = binds-told A w t q p y y′ r b fine in
@@ -621,7 +627,7 @@ variables-exactly A w t q p y r y′ b answers =
       later = binds-later A w t q p y y′ r b;
     }
   where
-    go : (k : Check) → bindCheck A w t q p (length y) ≡ k → bindCheck A w t q p (length y) ≡ Fine
+    go : (k : Check) → variablesCheck A w t q p (length y) ≡ k → variablesCheck A w t q p (length y) ≡ Fine
     go Fine e = e
     go (Refused x) e = absurd (answers x (b .answer ∙ ap (λ (k : Check). bound k (b .matched)) e))
 
@@ -779,8 +785,8 @@ beside-same A row t n p m row′ t′ q q′ b Q =
     })
 
 -- with a row and table that are fine and room in the output, only the pattern can be refused
-bind-pattern : (A w t q : List ℕ) (p m : ℕ) → given A w t ≡ Fine → p < length w → 32 ≤ m → bindCheck A w t q p m ≡ pattern A q
-unfolding bindCheck searchCheck position output
+bind-pattern : (A w t q : List ℕ) (p m : ℕ) → given A w t ≡ Fine → p < length w → 32 ≤ m → variablesCheck A w t q p m ≡ pattern A q
+unfolding variablesCheck searchCheck position output
 bind-pattern A w t q p m g h k = rw (g, lt-ltb p (length w) h, le-ltb m 32 k) (then-fine (pattern A q))
 
 pub variables-stay : Variables-stay
@@ -803,7 +809,7 @@ variables-stay A row t n p m row′ t′ q q′ b Q y r y′ z s z′ hy hz befo
     agree Unmatched s M N f g k n = g .1 .1 (λ x. f .1 .0 refl (k .0 x))
     agree (BindRefused x) s M N f g k n = absurd (n x refl)
 
-    go : (d : Check) → pattern A Q ≡ d → bindCheck A (take n row) t Q q (length y) ≡ pattern A Q → bindCheck A (take m row′) t′ Q q′ (length z) ≡ pattern A Q
+    go : (d : Check) → pattern A Q ≡ d → variablesCheck A (take n row) t Q q (length y) ≡ pattern A Q → variablesCheck A (take m row′) t′ Q q′ (length z) ≡ pattern A Q
         → Same A row t n p m row′ t′ q q′ Q → s ≡ r
     go Fine e c c′ same =
         agree r s (MatchesAt A (take n row) Q q) (MatchesAt A (take m row′) Q q′)

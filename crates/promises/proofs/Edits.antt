@@ -27,10 +27,11 @@ use Rattle.edits.proofs.Ends.{end-at, nests}
 use Rattle.edits.proofs.Positions.{at-left, at-behind, put-back, put-swap}
 use Rattle.sparrowhem.specs.declared.edit.Replaced.{Replaced}
 use Rattle.sparrowhem.specs.declared.edit.Replaced.the-variants.{Done, Refused}
-use Rattle.sparrowhem.specs.Edit.{replaceCheck, Replacement}
+use Rattle.checks.specs.Checks.{replaceCheck}
+use Rattle.sparrowhem.specs.Edit.{Replacement}
 use Rattle.promises.specs.Runs.{State, Call, Run, edit, edits, Holds, lengthAfter}
 use Rattle.promises.specs.Edits.{Replace-settled, Replace-refused, Replace-writes, Any-run, Putting-back, Either-order, Others-stay, movedSpan, Patterns-stay}
-use Rattle.sparrowhem.proofs.Replacing.{replace-held, replace-able, able-sizes, replacement-whole, replace-goes}
+use Rattle.checks.proofs.Replacing.{replace-held, replace-able, able-sizes, replacement-whole, replace-goes}
 use Rattle.promises.proofs.Spanning.{spans-stay, map-same}
 use Rattle.promises.proofs.Holding.{Went, goes, went, stayed, same-lengths, holds-changed, held-once, built-holds}
 

@@ -33,11 +33,13 @@ use Rattle.edits.specs.Put.{changed}
 use Rattle.edits.proofs.Put.{put-count, put-ranked, put-below, below}
 use Rattle.sparrowhem.specs.declared.edit.Replaced.{Replaced}
 use Rattle.sparrowhem.specs.declared.edit.Replaced.the-variants.{Done, Refused as Unreplaced}
-use Rattle.sparrowhem.specs.Build.{buildCheck, Built}
-use Rattle.sparrowhem.specs.Edit.{heldCheck, replaceCheck, answered, Replacement}
+use Rattle.checks.specs.Checks.{buildCheck}
+use Rattle.sparrowhem.specs.Build.{Built}
+use Rattle.checks.specs.Checks.{heldCheck, replaceCheck}
+use Rattle.sparrowhem.specs.Edit.{answered, Replacement}
 use Rattle.promises.specs.Runs.{Holds}
-use Rattle.sparrowhem.proofs.Building.{build-fillable}
-use Rattle.sparrowhem.proofs.Replacing.{held-fine, replace-held, replace-able}
+use Rattle.checks.proofs.Building.{build-fillable}
+use Rattle.checks.proofs.Replacing.{held-fine, replace-held, replace-able}
 
 -- ---- held rows
 

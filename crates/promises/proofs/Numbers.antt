@@ -27,8 +27,8 @@ use Rattle.rows.proofs.Promises.{reads-rows, checksum-rule}
 use Rattle.edits.specs.Replace.{grown}
 use Rattle.edits.proofs.Place.{grown-over, grown-fits}
 use Rattle.edits.proofs.Put.{below}
-use Rattle.sparrowhem.specs.Search.{output}
-use Rattle.sparrowhem.proofs.Handing.{clash}
+use Rattle.checks.specs.Checks.{output}
+use Rattle.checks.proofs.Passing.{clash}
 use Rattle.promises.specs.Numbers.{FirstOver, Unfinished, Numbers}
 use Rattle.rows.proofs.Entry.{same-end}
 

@@ -16,14 +16,16 @@ use Rattle.rows.specs.declared.Refusal.the-variants.{Position, OutputShort}
 use Rattle.rows.specs.declared.Check.{Check}
 use Rattle.rows.specs.declared.Check.the-variants.{Fine, Refused}
 use Rattle.tables.proofs.Given.{both-fine}
-use Rattle.sparrowhem.specs.Plain.{rowCheck, plainCheck, PlainSays}
+use Rattle.checks.specs.Checks.{rowCheck, plainCheck}
+use Rattle.sparrowhem.specs.Plain.{PlainSays}
 use Rattle.promises.specs.Plain.{Plain-settled, Plain-yes, Both, Plain-finds, Shared, Plain-refuses}
-use Rattle.sparrowhem.specs.Search.{searchCheck, output, findCheck, found, Finds}
+use Rattle.checks.specs.Checks.{searchCheck, output, findCheck}
+use Rattle.sparrowhem.specs.Search.{found, Finds}
 use Rattle.sparrowhem.specs.declared.matcher.Fits.{Fits}
 use Rattle.sparrowhem.specs.declared.matcher.Fits.the-variants.{Yes, No, Refused as PlainRefused}
 use Rattle.sparrowhem.specs.declared.search.Found.{Found}
 use Rattle.sparrowhem.specs.declared.search.Found.the-variants.{Matches, Refused as FindRefused}
-use Rattle.sparrowhem.proofs.Handing.{clash, position-fine}
+use Rattle.checks.proofs.Passing.{clash, position-fine}
 use Rattle.sparrowhem.proofs.Searching.{finds-matches}
 use Rattle.promises.proofs.Agreeing.{search-left, plain-left}
 use Rattle.promises.proofs.Calls.{find-lists}

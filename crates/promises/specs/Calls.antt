@@ -17,8 +17,10 @@ use Rattle.rows.specs.declared.Check.the-variants.{Fine, Refused}
 use Rattle.sparrowhem.specs.Build.{Built}
 use Rattle.patterns.specs.Answers.{MatchesAt, Listed, spans}
 use Rattle.patterns.specs.Walk.{comesThrough, listOf}
-use Rattle.sparrowhem.specs.Parts.{subtreePart, subtreeAnswer, SubtreeLies, onRecord, NewestSays, newestPart, NewerPart, NewerLies}
-use Rattle.sparrowhem.specs.Search.{searchCheck, findCheck, found, Finds, bindCheck, bound, Binds}
+use Rattle.sparrowhem.specs.Parts.{subtreePart, subtreeAnswer, SubtreeLies, NewestSays, newestPart, NewerPart, NewerLies}
+use Rattle.checks.specs.Checks.{onRecord}
+use Rattle.checks.specs.Checks.{searchCheck, findCheck, variablesCheck}
+use Rattle.sparrowhem.specs.Search.{found, Finds, bound, Binds}
 use Rattle.sparrowhem.specs.declared.search.Found.{Found}
 use Rattle.sparrowhem.specs.declared.search.Found.the-variants.{Matches, Refused as FindRefused}
 use Rattle.sparrowhem.specs.declared.search.Bound.{Bound}
@@ -142,5 +144,5 @@ Variables-refused = (A w t q : List ℕ) (p : ℕ) (y : List ℕ) (r : Refusal) 
 -- The outcome can be computed.
 abbrev pub Variables-computed : Type 0
 Variables-computed = (A w t q : List ℕ) (p : ℕ) (y : List ℕ) (r : Bound) (y′ : List ℕ) → Binds A w t q p y r y′
-    → (r ≡ bound (bindCheck A w t q p (length y)) (comesThrough w (table A w) q p))
-    × (y′ ≡ after (bindCheck A w t q p (length y)) (pick (comesThrough w (table A w) q p) (written y 0 (spans A w q p)) y) y)
+    → (r ≡ bound (variablesCheck A w t q p (length y)) (comesThrough w (table A w) q p))
+    × (y′ ≡ after (variablesCheck A w t q p (length y)) (pick (comesThrough w (table A w) q p) (written y 0 (spans A w q p)) y) y)

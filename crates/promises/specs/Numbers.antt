@@ -16,7 +16,7 @@ use Rattle.rows.specs.declared.Refusal.{Refusal}
 use Rattle.rows.specs.declared.Refusal.the-variants.{AlphabetSize, ArityOver, NoLeaf, BufferShort, Position, TooLong, OutputShort}
 use Rattle.rows.specs.declared.Check.the-variants.{Refused}
 use Rattle.edits.specs.Replace.{grown}
-use Rattle.sparrowhem.specs.Search.{output}
+use Rattle.checks.specs.Checks.{output}
 
 -- s is the first symbol with an arity over 15
 pub record FirstOver (A : List ℕ) (s : ℕ) : Type 0 where

@@ -12,7 +12,8 @@ use Rattle.rows.specs.declared.Check.{Check}
 use Rattle.rows.specs.declared.Check.the-variants.{Fine}
 use Rattle.patterns.specs.Answers.{MatchesAt}
 use Rattle.sparrowhem.specs.Build.{Built}
-use Rattle.sparrowhem.specs.Plain.{plainCheck, PlainSays}
+use Rattle.checks.specs.Checks.{plainCheck}
+use Rattle.sparrowhem.specs.Plain.{PlainSays}
 use Rattle.sparrowhem.specs.Search.{Finds}
 use Rattle.sparrowhem.specs.declared.matcher.Fits.{Fits}
 use Rattle.sparrowhem.specs.declared.matcher.Fits.the-variants.{Yes, Refused as PlainRefused}

@@ -9,7 +9,8 @@ use Rattle.rows.specs.declared.Check.the-variants.{Fine}
 use Rattle.edits.specs.Put.{put}
 use Rattle.sparrowhem.specs.declared.edit.Replaced.{Replaced}
 use Rattle.sparrowhem.specs.declared.edit.Replaced.the-variants.{Done, Refused}
-use Rattle.sparrowhem.specs.Edit.{heldCheck, Replacement}
+use Rattle.checks.specs.Checks.{heldCheck}
+use Rattle.sparrowhem.specs.Edit.{Replacement}
 
 -- What a caller holds between two calls: the row's buffer, the table, and the row length that was last answered.
 pub record State : Type 0 where

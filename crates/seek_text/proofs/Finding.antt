@@ -26,11 +26,13 @@ use Rattle.patterns.specs.Answers.{Listed}
 use Rattle.patterns.specs.Searches.{Checked}
 use Rattle.patterns.proofs.Listing.{listed-length}
 use Rattle.buffers.proofs.Written.{length-written}
-use Rattle.sparrowhem.specs.Build.{buildCheck, Built}
-use Rattle.sparrowhem.specs.Search.{searchCheck, output, findCheck, Finds}
+use Rattle.checks.specs.Checks.{buildCheck}
+use Rattle.sparrowhem.specs.Build.{Built}
+use Rattle.checks.specs.Checks.{searchCheck, output, findCheck}
+use Rattle.sparrowhem.specs.Search.{Finds}
 use Rattle.sparrowhem.specs.declared.search.Found.{Found}
 use Rattle.sparrowhem.specs.declared.search.Found.the-variants as found-as
-use Rattle.sparrowhem.proofs.Searching.{search-checked}
+use Rattle.checks.proofs.Passing.{search-checked}
 use Rattle.seek_text.specs.Search.{seekCheck, Searched}
 
 -- a buffer of 16,384 places is never too short

@@ -1,4 +1,4 @@
--- What refusals 1 to 15 leave, and what find and the variables call make of it.
+-- What find and the variables call make of what their checks leave.
 -- Assumes nothing.
 use Prim.Native.Nat.{ℕ, _+_, _≤_, _<_}
 use mathlib.Core.Path.{_≡_, refl, sym, ap, _∙_, subst}
@@ -7,62 +7,34 @@ use mathlib.Core.Bool.{Bool, true, false}
 use mathlib.Core.Logic.{_↔_}
 use native.Mathlib.Omega.{arith}
 use native.Mathlib.Nat.{zero-add}
-use borrow.Author.Tests.{lt-ltb, le-ltb, le-leb, lt-leb, ltb-false}
-use lib.Dec.{ltb}
+use borrow.Author.Tests.{lt-ltb, le-ltb, le-leb, lt-leb}
 use lib.ListN.{length, drop}
 use lib.Seq.{drop-at}
 use Rattle.rows.specs.Parse.{table}
-use Rattle.rows.specs.Row.{pick, reading}
+use Rattle.rows.specs.Row.{pick}
 use Rattle.rows.specs.Buffers.{written, after}
-use Rattle.rows.specs.Refusals.{_then_, alphabetSize, aritiesFit, someLeaf, alphabet, kept, given, asPattern, pattern, position}
-use Rattle.rows.specs.declared.Leaves.the-variants.{Blanks}
-use Rattle.rows.specs.declared.Verdict.{Verdict}
-use Rattle.rows.specs.declared.Verdict.the-variants.{Whole, Faulty}
+use Rattle.rows.specs.Refusals.{_then_, pattern}
 use Rattle.rows.specs.declared.Refusal.{Refusal}
-use Rattle.rows.specs.declared.Refusal.the-variants.{AlphabetSize, Position, OutputShort}
+use Rattle.rows.specs.declared.Refusal.the-variants.{OutputShort}
 use Rattle.rows.specs.declared.Check.{Check}
 use Rattle.rows.specs.declared.Check.the-variants.{Fine, Refused}
-use Rattle.tables.proofs.Given.{both-fine, given-right}
+use Rattle.tables.proofs.Given.{both-fine}
 use Rattle.patterns.specs.Answers.{MatchesAt, Listed, spans}
-use Rattle.patterns.specs.Searches.{Checked, Lists, Binds as Bound-at}
+use Rattle.patterns.specs.Searches.{Lists, Binds as Bound-at}
 use Rattle.patterns.specs.Walk.{comesThrough}
 use Rattle.patterns.proofs.Promises.{one-list, walk-right}
-use Rattle.sparrowhem.specs.Search.{searchCheck, output, findCheck, found, Finds, bindCheck, bound, Binds}
+use Rattle.checks.specs.Checks.{searchCheck, output, findCheck, variablesCheck}
+use Rattle.sparrowhem.specs.Search.{found, Finds, bound, Binds}
 use Rattle.sparrowhem.specs.declared.search.Found.{Found}
 use Rattle.sparrowhem.specs.declared.search.Found.the-variants.{Matches, Refused as FindRefused}
 use Rattle.sparrowhem.specs.declared.search.Bound.{Bound}
 use Rattle.sparrowhem.specs.declared.search.Bound.the-variants.{Matched, Unmatched, Refused as BindRefused}
-use Rattle.sparrowhem.proofs.Handing.{position-fine}
+use Rattle.checks.proofs.Passing.{output-fine, variables-checked}
 
 -- what stands behind a list that is written to the front stays
 pub written-behind : (b v : List ℕ) → drop (length v) (written b 0 v) ≡ drop (length v) b
 unfolding written
 written-behind b v = drop-at v (drop (0 + length v) b) (length v) refl ∙ ap (λ (n : ℕ). drop n b) (zero-add (length v))
-
-pub few : (n : ℕ) → alphabetSize n ≡ Fine → n ≤ 1024
-unfolding alphabetSize
-few n e = go (ltb n 1) (ltb 1024 n) refl e
-  where
-    go : (a b : Bool) → ltb 1024 n ≡ b → pick a (Refused (AlphabetSize n)) (pick b (Refused (AlphabetSize n)) Fine) ≡ Fine → n ≤ 1024
-    go true b q e = let z : _≡_ {A = ℕ} 0 1 = cc in absurd (omega arith)
-    go false true q e = let z : _≡_ {A = ℕ} 0 1 = cc in absurd (omega arith)
-    go false false q e = ltb-false 1024 n q
-
-pub pattern-fine : (v : Verdict) → asPattern v ≡ Fine → v ≡ Whole
-pattern-fine Whole e = refl
-pattern-fine (Faulty f) e = let z : _≡_ {A = ℕ} 0 1 = cc in absurd (omega arith)
-
--- row, table and pattern can be searched
-pub search-checked : (A w t q : List ℕ) → searchCheck A w t q ≡ Fine → Checked A w t q
-unfolding searchCheck given alphabet pattern
-search-checked A w t q e =
-    let both = both-fine (given A w t) (pattern A q) e in
-    let alpha = both-fine (alphabet A) (kept A w t) (both .0) .0 in
-    record {
-      few = few (length A) (both-fine (alphabetSize (length A)) (aritiesFit 0 A then someLeaf A) alpha .0);
-      row = given-right A w t (both .0);
-      pattern = pattern-fine (reading A Blanks 256 q) (both .1);
-    }
 
 -- FIND
 module _ (A w t q y : List ℕ) where
@@ -105,7 +77,7 @@ module _ (A w t q y : List ℕ) where
 
 -- VARIABLES
 module _ (A w t q : List ℕ) (p : ℕ) (y : List ℕ) where
-  pub binds-refused : (r : Refusal) → bindCheck A w t q p (length y) ≡ Refused r → Binds A w t q p y (bound (Refused r) false) y
+  pub binds-refused : (r : Refusal) → variablesCheck A w t q p (length y) ≡ Refused r → Binds A w t q p y (bound (Refused r) false) y
   binds-refused r e =
       record {
         matched = false;
@@ -114,40 +86,16 @@ module _ (A w t q : List ℕ) (p : ℕ) (y : List ℕ) where
         buffer = rw e refl;
       }
 
-  -- the checks in their order
-  pub bind-search : (r : Refusal) → searchCheck A w t q ≡ Refused r → bindCheck A w t q p (length y) ≡ Refused r
-  unfolding bindCheck
-  bind-search r e = rw e refl
-
-  module _ (e : searchCheck A w t q ≡ Fine) where
-    pub bind-position : length w ≤ p → bindCheck A w t q p (length y) ≡ Refused (Position p)
-    unfolding bindCheck position
-    bind-position h = rw (e, le-ltb p (length w) h) refl
-
-    pub bind-short : p < length w → length y < 32 → bindCheck A w t q p (length y) ≡ Refused (OutputShort 32)
-    unfolding bindCheck position output
-    bind-short h k = rw (e, lt-ltb p (length w) h, lt-ltb (length y) 32 k) refl
-
-    pub binds-answer : p < length w → 32 ≤ length y → (r b : Bool) → r ≡ b → (y′ : List ℕ) → Bound-at A w q p y r y′ → Binds A w t q p y (bound Fine b) y′
-    unfolding bindCheck position output
-    binds-answer h k r b z y′ m =
-        let c : bindCheck A w t q p (length y) ≡ Fine = rw (e, lt-ltb p (length w) h, le-ltb (length y) 32 k) refl in
-        record {
-          matched = r;
-          exactly = λ f. m .answer;
-          answer = ap (bound Fine) (sym z) ∙ sym (ap (λ (x : Check). bound x r) c);
-          buffer = m .buffer ∙ sym (ap (λ (x : Check). after x (pick r (written y 0 (spans A w q p)) y) y) c);
-        }
+  pub binds-answer : variablesCheck A w t q p (length y) ≡ Fine → (r b : Bool) → r ≡ b → (y′ : List ℕ) → Bound-at A w q p y r y′ → Binds A w t q p y (bound Fine b) y′
+  binds-answer c r b z y′ m =
+      record {
+        matched = r;
+        exactly = λ f. m .answer;
+        answer = ap (bound Fine) (sym z) ∙ sym (ap (λ (x : Check). bound x r) c);
+        buffer = m .buffer ∙ sym (ap (λ (x : Check). after x (pick r (written y 0 (spans A w q p)) y) y) c);
+      }
 
 -- WHAT AN ANSWER TELLS
-output-fine : (n m : ℕ) → output n m ≡ Fine → n ≤ m
-unfolding output
-output-fine n m e = go (ltb m n) refl e
-  where
-    go : (b : Bool) → ltb m n ≡ b → pick b (Refused (OutputShort n)) Fine ≡ Fine → n ≤ m
-    go true h e = let z : _≡_ {A = ℕ} 0 1 = cc in absurd (omega arith)
-    go false h e = ltb-false m n h
-
 module _ (A w t q y : List ℕ) (r : Found) (y′ : List ℕ) (f : Finds A w t q y r y′) where
   abbrev outcome : List ℕ → Check → Type 0
   outcome ps c = (r ≡ found c (length ps)) × (y′ ≡ after c (written y 0 ps) y)
@@ -196,26 +144,19 @@ both-ways false true X f g = f .1 (g .0 refl)
 both-ways false false X f g = refl
 
 module _ (A w t q : List ℕ) (p : ℕ) (y : List ℕ) (r : Bound) (y′ : List ℕ) (f : Binds A w t q p y r y′) where
-  -- what is not refused
-  inside : bindCheck A w t q p (length y) ≡ Fine → Checked A w t q × (p < length w)
-  unfolding bindCheck
-  inside e =
-      let both = both-fine (searchCheck A w t q) (position (length w) p then output 32 (length y)) e in
-      (search-checked A w t q (both .0), position-fine (length w) p (both-fine (position (length w) p) (output 32 (length y)) (both .1) .0))
-
   -- the walk says whether the pattern matches
-  pub binds-walk : (r ≡ bound (bindCheck A w t q p (length y)) (comesThrough w (table A w) q p))
-      × (y′ ≡ after (bindCheck A w t q p (length y)) (pick (comesThrough w (table A w) q p) (written y 0 (spans A w q p)) y) y)
-  binds-walk = go (bindCheck A w t q p (length y)) refl (f .answer) (f .buffer)
+  pub binds-walk : (r ≡ bound (variablesCheck A w t q p (length y)) (comesThrough w (table A w) q p))
+      × (y′ ≡ after (variablesCheck A w t q p (length y)) (pick (comesThrough w (table A w) q p) (written y 0 (spans A w q p)) y) y)
+  binds-walk = go (variablesCheck A w t q p (length y)) refl (f .answer) (f .buffer)
     where
       m : Bool
       m = comesThrough w (table A w) q p
 
-      go : (c : Check) → bindCheck A w t q p (length y) ≡ c → r ≡ bound c (f .matched) → y′ ≡ after c (pick (f .matched) (written y 0 (spans A w q p)) y) y
+      go : (c : Check) → variablesCheck A w t q p (length y) ≡ c → r ≡ bound c (f .matched) → y′ ≡ after c (pick (f .matched) (written y 0 (spans A w q p)) y) y
           → (r ≡ bound c m) × (y′ ≡ after c (pick m (written y 0 (spans A w q p)) y) y)
       go (Refused x) e a b = (a, b)
       go Fine e a b =
-          let i = inside e in
+          let i = variables-checked A w t q p (length y) e in
           let same : f .matched ≡ m = both-ways (f .matched) m (MatchesAt A w q p) (f .exactly e) (walk-right A w t q (i .0) p (i .1)) in
           (a ∙ ap (bound Fine) same, b ∙ ap (λ (x : Bool). pick x (written y 0 (spans A w q p)) y) same)
 
@@ -226,9 +167,9 @@ module _ (A w t q : List ℕ) (p : ℕ) (y : List ℕ) (r : Bound) (y′ : List 
 
   pub binds-tells : Tells r
   binds-tells =
-      subst Tells (sym (f .answer)) (go (bindCheck A w t q p (length y)) refl (f .matched) (λ e. f .exactly e) (f .buffer))
+      subst Tells (sym (f .answer)) (go (variablesCheck A w t q p (length y)) refl (f .matched) (λ e. f .exactly e) (f .buffer))
     where
-      go : (c : Check) → bindCheck A w t q p (length y) ≡ c → (m : Bool) → (bindCheck A w t q p (length y) ≡ Fine → (m ≡ true) ↔ MatchesAt A w q p)
+      go : (c : Check) → variablesCheck A w t q p (length y) ≡ c → (m : Bool) → (variablesCheck A w t q p (length y) ≡ Fine → (m ≡ true) ↔ MatchesAt A w q p)
           → y′ ≡ after c (pick m (written y 0 (spans A w q p)) y) y → Tells (bound c m)
       go (Refused x) e m k b = b
       go Fine e true k b = (k e .0 refl, b)

@@ -5,12 +5,9 @@ use mathlib.Core.List.{List}
 use lib.ListN.{length}
 use Rattle.rows.specs.Parse.{table as tableOf}
 use Rattle.rows.specs.Buffers.{written, after}
-use Rattle.rows.specs.Refusals.{_then_, alphabet, sizes, symbols}
+use Rattle.rows.specs.Refusals.{alphabet}
 use Rattle.rows.specs.declared.Check.{Check}
-
--- refusals 1 to 9 in their order, for a table of m places
-unfoldable pub buildCheck : List ℕ → List ℕ → ℕ → Check
-buildCheck A w m = alphabet A then sizes (length w) m then symbols A w
+use Rattle.checks.specs.Checks.{buildCheck}
 
 -- `r` answers a build of the row `w` over the alphabet `A` into the table `t`, which is `t′` afterwards
 pub record Built (A w t : List ℕ) (r : Check) (t′ : List ℕ) : Type 0 where

@@ -1,35 +1,19 @@
 -- What replace answers, and what it leaves in the row's buffer and in the table.
-use Prim.Native.Nat.{ℕ, min}
+use Prim.Native.Nat.{ℕ}
 use mathlib.Core.Path.{_≡_}
 use mathlib.Core.List.{List}
 use lib.ListN.{length, take}
 use lib.IntN.{pos, _-ℤ_}
 use Rattle.rows.specs.Tree.{size, prefix, ends}
 use Rattle.rows.specs.Buffers.{after}
-use Rattle.rows.specs.Refusals.{_then_, alphabet, sizes, symbols, fresh, replacement, position}
+use Rattle.rows.specs.Refusals.{replacement, position}
 use Rattle.rows.specs.declared.Check.{Check}
 use Rattle.rows.specs.declared.Check.the-variants.{Fine, Refused}
 use Rattle.buffers.specs.Renewed.{renewed}
 use Rattle.edits.specs.Put.{changed}
-use Rattle.edits.specs.Replace.{grown}
+use Rattle.checks.specs.Checks.{replaceCheck}
 use Rattle.sparrowhem.specs.declared.edit.Replaced.{Replaced}
 use Rattle.sparrowhem.specs.declared.edit.Replaced.the-variants.{Done, Refused as Unreplaced}
-
--- refusals 1 to 10, for the row of the first n places of its buffer
-unfoldable pub heldCheck : List ℕ → List ℕ → List ℕ → ℕ → Check
-heldCheck A row table n =
-    alphabet A
-    then sizes n (min (length row) (length table))
-    then symbols A (take n row)
-    then fresh A (take n row) table
-
--- refusals 1 to 10, 24 to 29, 17 and 18 in their order
-unfoldable pub replaceCheck : List ℕ → List ℕ → List ℕ → ℕ → List ℕ → ℕ → Check
-replaceCheck A row table n v p =
-    heldCheck A row table n
-    then replacement A v
-    then position n p
-    then grown (size (changed A (take n row) p v)) (min (length row) (length table))
 
 -- the new length m and how much it is over the old one; or the refusal
 abbrev pub answered : Check → ℕ → ℕ → Replaced

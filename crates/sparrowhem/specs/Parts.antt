@@ -6,20 +6,15 @@ use lib.ListN.{length, getD}
 use Rattle.rows.specs.Tree.{single, prefix, subtreeAt}
 use Rattle.rows.specs.Parse.{parse, table}
 use Rattle.rows.specs.Buffers.{after}
-use Rattle.rows.specs.Refusals.{_then_, given, kept, pattern, position}
-use Rattle.rows.specs.declared.Refusal.{Refusal}
-use Rattle.rows.specs.declared.Refusal.the-variants.{AlphabetSize, ArityOver, NoLeaf, Row, BufferShort, Stale, OnRecord, OnRecordShort, OnRecordStale, Pattern, Replacement, Position, TooLong, OutputShort, Line, InputLong}
+use Rattle.rows.specs.Refusals.{position}
 use Rattle.rows.specs.declared.Check.{Check}
 use Rattle.rows.specs.declared.Check.the-variants.{Fine, Refused}
 use Rattle.patterns.specs.Answers.{MatchesAt}
+use Rattle.checks.specs.Checks.{subtreeCheck, newerCheck}
 use Rattle.sparrowhem.specs.declared.parts.Newest.{Newest}
 use Rattle.sparrowhem.specs.declared.parts.Newest.the-variants.{Corrected, OnRecord as OnRecordAt, Nowhere, Refused as NewestRefused}
 use Rattle.sparrowhem.specs.declared.parts.Placed.{Placed}
 use Rattle.sparrowhem.specs.declared.parts.Placed.the-variants.{Span, Refused as Unplaced}
-
--- refusals 1 to 10, then 17
-unfoldable pub subtreeCheck : List ℕ → List ℕ → List ℕ → ℕ → Check
-subtreeCheck A w t p = given A w t then position (length w) p
 
 -- the row of the subtree at p; nothing where the call refuses
 unfoldable pub subtreePart : List ℕ → List ℕ → List ℕ → ℕ → List ℕ
@@ -42,33 +37,6 @@ LiesAt row b part = (part .0 ≡ row .0) × (part .1 ≡ b * 2 + row .1)
 abbrev pub SubtreeLies : Placed → ℕ × ℕ → ℕ × ℕ → Type 0
 SubtreeLies (Span b e) row part = LiesAt row b part
 SubtreeLies (Unplaced r) row part = LiesAt row 0 part
-
--- NEWER OR OLDER. A refusal of a row with its table, 4 to 10, as that of the row on record, 44 to 50; any other stays.
-abbrev pub onRecord : Refusal → Refusal
-onRecord (Row f) = OnRecord f
-onRecord (BufferShort n) = OnRecordShort n
-onRecord (Stale p) = OnRecordStale p
-onRecord (AlphabetSize n) = AlphabetSize n
-onRecord (ArityOver s) = ArityOver s
-onRecord NoLeaf = NoLeaf
-onRecord (OnRecord f) = OnRecord f
-onRecord (OnRecordShort n) = OnRecordShort n
-onRecord (OnRecordStale p) = OnRecordStale p
-onRecord (Pattern f) = Pattern f
-onRecord (Replacement f) = Replacement f
-onRecord (Position p) = Position p
-onRecord (TooLong n) = TooLong n
-onRecord (OutputShort n) = OutputShort n
-onRecord (Line k) = Line k
-onRecord InputLong = InputLong
-
-abbrev pub ofRecord : Check → Check
-ofRecord Fine = Fine
-ofRecord (Refused r) = Refused (onRecord r)
-
--- refusals 1 to 3, 4 to 10 of the corrected row w with its table t, 44 to 50 of the row v on record with its table u, 11 to 15
-unfoldable pub newerCheck : List ℕ → List ℕ → List ℕ → List ℕ → List ℕ → List ℕ → Check
-newerCheck A w t v u q = given A w t then ofRecord (kept A v u) then pattern A q
 
 -- the first match in the row w is at position p, and the subtree there ends at e
 pub record FirstMatch (A w q : List ℕ) (p e : ℕ) : Type 0 where

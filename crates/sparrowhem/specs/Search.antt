@@ -4,31 +4,18 @@ use mathlib.Core.Path.{_≡_}
 use mathlib.Core.List.{List}
 use mathlib.Core.Bool.{Bool, true, false}
 use mathlib.Core.Logic.{_↔_}
-use lib.Dec.{ltb}
 use lib.ListN.{length}
 use Rattle.rows.specs.Row.{pick}
 use Rattle.rows.specs.Buffers.{written, after}
-use Rattle.rows.specs.Refusals.{_then_, given, pattern, position}
-use Rattle.rows.specs.declared.Refusal.the-variants.{OutputShort}
+use Rattle.rows.specs.Refusals.{pattern, position}
 use Rattle.rows.specs.declared.Check.{Check}
 use Rattle.rows.specs.declared.Check.the-variants.{Fine, Refused}
 use Rattle.patterns.specs.Answers.{MatchesAt, Listed, spans}
+use Rattle.checks.specs.Checks.{searchCheck, findCheck, variablesCheck}
 use Rattle.sparrowhem.specs.declared.search.Found.{Found}
 use Rattle.sparrowhem.specs.declared.search.Found.the-variants.{Matches, Refused as FindRefused}
 use Rattle.sparrowhem.specs.declared.search.Bound.{Bound}
 use Rattle.sparrowhem.specs.declared.search.Bound.the-variants.{Matched, Unmatched, Refused as BindRefused}
-
--- refusals 1 to 15 in their order
-unfoldable pub searchCheck : List ℕ → List ℕ → List ℕ → List ℕ → Check
-searchCheck A w t q = given A w t then pattern A q
-
--- 19: n numbers have room in an output of m places
-unfoldable pub output : ℕ → ℕ → Check
-output n m = pick (ltb m n) (Refused (OutputShort n)) Fine
-
--- FIND. Refusals 1 to 15, then 19 where the n matches have no room in m places.
-unfoldable pub findCheck : List ℕ → List ℕ → List ℕ → List ℕ → ℕ → ℕ → Check
-findCheck A w t q n m = searchCheck A w t q then output n m
 
 -- the number of the matches, or the refusal
 abbrev pub found : Check → ℕ → Found
@@ -43,10 +30,6 @@ pub record Finds (A w t q y : List ℕ) (r : Found) (y′ : List ℕ) : Type 0 w
   pub answer : r ≡ found (findCheck A w t q (length positions) (length y)) (length positions)
   pub buffer : y′ ≡ after (findCheck A w t q (length positions) (length y)) (written y 0 positions) y
 
--- VARIABLES. Refusals 1 to 15, 17, then 19 where the output has under 32 places.
-unfoldable pub bindCheck : List ℕ → List ℕ → List ℕ → List ℕ → ℕ → ℕ → Check
-bindCheck A w t q p m = searchCheck A w t q then position (length w) p then output 32 m
-
 -- matched or not, or the refusal
 abbrev pub bound : Check → Bool → Bound
 bound Fine true = Matched
@@ -57,6 +40,6 @@ bound (Refused r) b = BindRefused r
 -- `matched` says whether the pattern matches there.
 pub record Binds (A w t q : List ℕ) (p : ℕ) (y : List ℕ) (r : Bound) (y′ : List ℕ) : Type 0 where
   pub matched : Bool
-  pub exactly : bindCheck A w t q p (length y) ≡ Fine → (matched ≡ true) ↔ MatchesAt A w q p
-  pub answer : r ≡ bound (bindCheck A w t q p (length y)) matched
-  pub buffer : y′ ≡ after (bindCheck A w t q p (length y)) (pick matched (written y 0 (spans A w q p)) y) y
+  pub exactly : variablesCheck A w t q p (length y) ≡ Fine → (matched ≡ true) ↔ MatchesAt A w q p
+  pub answer : r ≡ bound (variablesCheck A w t q p (length y)) matched
+  pub buffer : y′ ≡ after (variablesCheck A w t q p (length y)) (pick matched (written y 0 (spans A w q p)) y) y

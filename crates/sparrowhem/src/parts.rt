@@ -1,7 +1,7 @@
 // Parts of lent rows, handed back and not copied.
 ghost use mathlib.Core.Path.{_≡_};
 ghost use denote.Ref.{ptr};
-ghost use Rattle.sparrowhem.specs.Parts.{subtreeCheck, subtreePart, subtreeAnswer, SubtreeLies, onRecord, newerCheck, NewestSays, NewerPart, NewerLies};
+ghost use Rattle.sparrowhem.specs.Parts.{subtreePart, subtreeAnswer, SubtreeLies, NewestSays, NewerPart, NewerLies};
 use rows::Check;
 use rows::Refusal;
 
@@ -11,26 +11,11 @@ pub enum Placed {
     Refused(Refusal),
 }
 
-// Refusals 1 to 10, and 17.
-fn check_subtree(arities: &[u16], row: &[u16], table: &[u16], position: usize) -> Check
-    ensures { λ r. ⌜ r ≡ subtreeCheck (now (arities .entry)) (now (row .entry)) (now (table .entry)) position ⌝ }
-{
-    match tables::check_given(arities, row, table) {
-        Check::Refused(r) => Check::Refused(r),
-        Check::Fine => {
-            if position < row.len() {
-                return Check::Fine;
-            }
-            Check::Refused(Refusal::Position(position))
-        }
-    }
-}
-
 // The companion of `subtree`: begin and end of the subtree at the position, or the refusal.
 pub fn subtree_answer(arities: &[u16], row: &[u16], table: &[u16], position: usize) -> Placed
     ensures { λ r. ⌜ r ≡ subtreeAnswer (now (arities .entry)) (now (row .entry)) (now (table .entry)) position ⌝ }
 {
-    match check_subtree(arities, row, table, position) {
+    match checks::check_subtree(arities, row, table, position) {
         Check::Refused(r) => Placed::Refused(r),
         Check::Fine => Placed::Span(position, table[position] as usize),
     }
@@ -56,38 +41,6 @@ pub enum Newest {
     Refused(Refusal),
 }
 
-// A refusal of a row with its table, 4 to 10, as that of the row on record, 44 to 50.
-fn recorded(refusal: Refusal) -> Refusal
-    ensures { λ r. ⌜ r ≡ onRecord refusal ⌝ }
-{
-    match refusal {
-        Refusal::Row(f) => Refusal::OnRecord(f),
-        Refusal::BufferShort(n) => Refusal::OnRecordShort(n),
-        Refusal::Stale(p) => Refusal::OnRecordStale(p),
-        _ => refusal,
-    }
-}
-
-// Refusals 1 to 3, 4 to 10 of the corrected row, 44 to 50, and 11 to 15.
-fn check_newer(
-    arities: &[u16],
-    corrected: &[u16],
-    corrected_table: &[u16],
-    record: &[u16],
-    record_table: &[u16],
-    pattern: &[u16],
-) -> Check
-    ensures { λ r. ⌜ r ≡ newerCheck (now (arities .entry)) (now (corrected .entry)) (now («corrected_table» .entry)) (now («record» .entry)) (now («record_table» .entry)) (now (pattern .entry)) ⌝ }
-{
-    match tables::check_given(arities, corrected, corrected_table) {
-        Check::Refused(r) => Check::Refused(r),
-        Check::Fine => match tables::check_kept(arities, record, record_table) {
-            Check::Refused(r) => Check::Refused(recorded(r)),
-            Check::Fine => patterns::check_pattern(arities, pattern),
-        },
-    }
-}
-
 // The companion of `newer`: the first match in the corrected row, or if there is none, in the row on record, or if there is
 // none, nowhere; or the refusal. A refused corrected row never falls through to the older one.
 pub fn newer_answer(
@@ -100,7 +53,7 @@ pub fn newer_answer(
 ) -> Newest
     ensures { λ r. ⌜ NewestSays (now (arities .entry)) (now (corrected .entry)) (now («corrected_table» .entry)) (now («record» .entry)) (now («record_table» .entry)) (now (pattern .entry)) r ⌝ }
 {
-    match check_newer(
+    match checks::check_newer(
         arities,
         corrected,
         corrected_table,

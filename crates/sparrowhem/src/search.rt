@@ -1,6 +1,5 @@
 // Patterns over a row with its table.
-ghost use mathlib.Core.Path.{_≡_};
-ghost use Rattle.sparrowhem.specs.Search.{searchCheck, Finds, Binds};
+ghost use Rattle.sparrowhem.specs.Search.{Finds, Binds};
 use rows::Check;
 use rows::Refusal;
 
@@ -17,22 +16,12 @@ pub enum Bound {
     Refused(Refusal),
 }
 
-// Refusals 1 to 15.
-fn check_search(arities: &[u16], row: &[u16], table: &[u16], pattern: &[u16]) -> Check
-    ensures { λ r. ⌜ r ≡ searchCheck (now (arities .entry)) (now (row .entry)) (now (table .entry)) (now (pattern .entry)) ⌝ }
-{
-    match tables::check_given(arities, row, table) {
-        Check::Refused(r) => Check::Refused(r),
-        Check::Fine => patterns::check_pattern(arities, pattern),
-    }
-}
-
 // Find: the number of the matches, which stand at the front of `out`, rising, later places stay; or the first refusal,
 // which writes nothing.
 pub fn find(arities: &[u16], row: &[u16], table: &[u16], pattern: &[u16], out: &mut [u16]) -> Found
     ensures { λ r. ⌜ Finds (now (arities .entry)) (now (row .entry)) (now (table .entry)) (now (pattern .entry)) (now (out .entry)) r (now (out .exit)) ⌝ }
 {
-    match check_search(arities, row, table, pattern) {
+    match checks::check_search(arities, row, table, pattern) {
         Check::Refused(r) => Found::Refused(r),
         Check::Fine => {
             let count = patterns::list_matches(row, table, pattern, out);
@@ -56,15 +45,9 @@ pub fn variables(
 ) -> Bound
     ensures { λ r. ⌜ Binds (now (arities .entry)) (now (row .entry)) (now (table .entry)) (now (pattern .entry)) position (now (out .entry)) r (now (out .exit)) ⌝ }
 {
-    match check_search(arities, row, table, pattern) {
+    match checks::check_variables(arities, row, table, pattern, position, out.len()) {
         Check::Refused(r) => Bound::Refused(r),
         Check::Fine => {
-            if row.len() <= position {
-                return Bound::Refused(Refusal::Position(position));
-            }
-            if out.len() < 32 {
-                return Bound::Refused(Refusal::OutputShort(32));
-            }
             if patterns::variables_at(row, table, pattern, position, out) {
                 return Bound::Matched;
             }

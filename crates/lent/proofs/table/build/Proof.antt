@@ -11,8 +11,8 @@ use Rattle.rows.specs.declared.Check.{Check}
 use Rattle.rows.specs.declared.Check.the-variants.{Fine, Refused}
 use Rattle.wire.specs.Wire.{numbers}
 use Rattle.wire.proofs.Numbers.{write-read}
-use Rattle.sparrowhem.specs.Build.{buildCheck}
-use Rattle.sparrowhem.proofs.Building.{build-fillable}
+use Rattle.checks.specs.Checks.{buildCheck}
+use Rattle.checks.proofs.Building.{build-fillable}
 use Rattle.lent.specs.Answer.{answered}
 use borrow.Author.Needs.{needs}
 use Rattle.lent.proofs.table.build.Statement.{statement}

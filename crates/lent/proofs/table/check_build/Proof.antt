@@ -8,7 +8,7 @@ use Rattle.rows.specs.Refusals.{_then_, alphabet, sizes, symbols}
 use Rattle.rows.specs.declared.Check.{Check}
 use Rattle.rows.specs.declared.Check.the-variants.{Fine, Refused}
 use Rattle.wire.specs.Wire.{numbers}
-use Rattle.sparrowhem.specs.Build.{buildCheck}
+use Rattle.checks.specs.Checks.{buildCheck}
 use Rattle.lent.proofs.Checks.{build-after, build-most}
 use borrow.Author.Needs.{needs}
 use Rattle.lent.proofs.table.check_build.Statement.{statement}

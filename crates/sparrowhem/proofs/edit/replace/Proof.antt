@@ -9,8 +9,8 @@ use mir.Val.{toZ, ofZ}
 use mir.Facts.{toZ-ofZ}
 use Rattle.sparrowhem.specs.declared.edit.Replaced.the-variants.{Done}
 use Rattle.rows.specs.declared.Check.the-variants.{Fine}
-use Rattle.sparrowhem.specs.Edit.{replaceCheck}
-use Rattle.sparrowhem.proofs.Replacing.{replace-able, able-sizes}
+use Rattle.checks.specs.Checks.{replaceCheck}
+use Rattle.checks.proofs.Replacing.{replace-able, able-sizes}
 use borrow.Author.Needs.{needs}
 use Rattle.sparrowhem.proofs.edit.replace.Statement.{statement}
 use Rattle.sparrowhem.proofs.edit.replace.Tie as tie

@@ -3,7 +3,8 @@
 use Prim.Native.Nat.{ℕ}
 use mathlib.Core.Path.{_≡_, sym, _∙_}
 use native.Mathlib.Omega.{arith}
-use Rattle.sparrowhem.proofs.Trying.{Open, plain-open, open-tryable, open-matches, matches-open}
+use Rattle.checks.proofs.Passing.{Open, plain-open}
+use Rattle.sparrowhem.proofs.Trying.{open-tryable, open-matches, matches-open}
 use borrow.Author.Needs.{needs}
 use Rattle.sparrowhem.proofs.matcher.plain_match.Statement.{statement}
 use Rattle.sparrowhem.proofs.matcher.plain_match.Tie as tie

@@ -4,8 +4,9 @@ use mathlib.Core.Path.{_≡_, sym, _∙_}
 use native.Mathlib.Omega.{arith}
 use Rattle.rows.specs.declared.Check.the-variants.{Fine}
 use Rattle.patterns.specs.Searches.{Checked}
-use Rattle.sparrowhem.specs.Parts.{newerCheck}
-use Rattle.sparrowhem.proofs.Preferring.{newer-checked, first-match, no-match}
+use Rattle.checks.specs.Checks.{newerCheck}
+use Rattle.checks.proofs.Passing.{newer-checked}
+use Rattle.sparrowhem.proofs.Preferring.{first-match, no-match}
 use borrow.Author.Needs.{needs}
 use Rattle.sparrowhem.proofs.parts.newer_answer.Statement.{statement}
 use Rattle.sparrowhem.proofs.parts.newer_answer.Tie as tie

@@ -5,7 +5,7 @@ use mathlib.Core.Path.{sym, _∙_}
 use native.Mathlib.Omega.{arith}
 use Rattle.tables.proofs.Given.{right-entry}
 use Rattle.sparrowhem.specs.Parts.{subtreeAnswer}
-use Rattle.sparrowhem.proofs.Handing.{Stands, subtree-stands}
+use Rattle.checks.proofs.Passing.{Stands, subtree-stands}
 use borrow.Author.Needs.{needs}
 use Rattle.sparrowhem.proofs.parts.subtree_answer.Statement.{statement}
 use Rattle.sparrowhem.proofs.parts.subtree_answer.Tie as tie

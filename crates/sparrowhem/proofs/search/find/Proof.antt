@@ -2,7 +2,8 @@
 -- Assumes nothing.
 use mathlib.Core.Path.{sym, _∙_}
 use native.Mathlib.Omega.{arith}
-use Rattle.sparrowhem.proofs.Searching.{search-checked, finds-refused, finds-short, finds-all}
+use Rattle.checks.proofs.Passing.{search-checked}
+use Rattle.sparrowhem.proofs.Searching.{finds-refused, finds-short, finds-all}
 use borrow.Author.Needs.{needs}
 use Rattle.sparrowhem.proofs.search.find.Statement.{statement}
 use Rattle.sparrowhem.proofs.search.find.Tie as tie

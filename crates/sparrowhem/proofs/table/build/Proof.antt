@@ -4,8 +4,8 @@ use mathlib.Core.Path.{_≡_, sym, _∙_}
 use lib.ListN.{length}
 use Rattle.rows.specs.Parse.{table}
 use Rattle.rows.specs.declared.Check.the-variants.{Fine}
-use Rattle.sparrowhem.specs.Build.{buildCheck}
-use Rattle.sparrowhem.proofs.Building.{build-fillable}
+use Rattle.checks.specs.Checks.{buildCheck}
+use Rattle.checks.proofs.Building.{build-fillable}
 use borrow.Author.Needs.{needs}
 use Rattle.sparrowhem.proofs.table.build.Statement.{statement}
 use Rattle.sparrowhem.proofs.table.build.Tie as tie

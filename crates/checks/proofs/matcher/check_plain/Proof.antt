@@ -1,12 +1,12 @@
--- `sparrowhem::matcher::check_plain` meets its contract. The checks on the way decide each case.
+-- `checks::matcher::check_plain` meets its contract. The checks on the way decide each case.
 -- Assumes nothing.
 use mathlib.Core.Path.{sym, _∙_}
 use borrow.Author.Tests.{lt-ltb, le-ltb}
 use Rattle.rows.specs.Refusals.{position}
-use Rattle.sparrowhem.specs.Plain.{rowCheck, plainCheck}
+use Rattle.checks.specs.Checks.{rowCheck, plainCheck}
 use borrow.Author.Needs.{needs}
-use Rattle.sparrowhem.proofs.matcher.check_plain.Statement.{statement}
-use Rattle.sparrowhem.proofs.matcher.check_plain.Tie as tie
+use Rattle.checks.proofs.matcher.check_plain.Statement.{statement}
+use Rattle.checks.proofs.matcher.check_plain.Tie as tie
 
 check-alphabet-requires : tie.Need-check-alphabet-requires
 check-alphabet-requires c κs = search needs

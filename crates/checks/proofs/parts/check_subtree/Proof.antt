@@ -1,12 +1,12 @@
--- `sparrowhem::check_subtree` meets its contract. The checks on the way decide each case.
+-- `checks::parts::check_subtree` meets its contract. The checks on the way decide each case.
 -- Assumes nothing.
 use mathlib.Core.Path.{sym, _∙_}
 use borrow.Author.Tests.{lt-ltb, le-ltb}
 use Rattle.rows.specs.Refusals.{position}
-use Rattle.sparrowhem.specs.Parts.{subtreeCheck}
+use Rattle.checks.specs.Checks.{subtreeCheck}
 use borrow.Author.Needs.{needs}
-use Rattle.sparrowhem.proofs.parts.check_subtree.Statement.{statement}
-use Rattle.sparrowhem.proofs.parts.check_subtree.Tie as tie
+use Rattle.checks.proofs.parts.check_subtree.Statement.{statement}
+use Rattle.checks.proofs.parts.check_subtree.Tie as tie
 
 check-given-requires : tie.Need-check-given-requires
 check-given-requires c κs = search needs

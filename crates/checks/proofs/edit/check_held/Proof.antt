@@ -1,4 +1,4 @@
--- `sparrowhem::edit::check_held` meets its contract. The checks on the way decide each case.
+-- `checks::edit::check_held` meets its contract. The checks on the way decide each case.
 -- Assumes nothing.
 -- the sizes, told of the shorter buffer
 use Prim.Native.Nat.{min}
@@ -8,11 +8,11 @@ use lib.Seq.{length-take-le}
 use denote.Ref.{now}
 use Rattle.rows.specs.Refusals.{sizes}
 use Rattle.rows.specs.declared.Check.the-variants.{Fine}
-use Rattle.sparrowhem.specs.Edit.{heldCheck}
-use Rattle.sparrowhem.proofs.Replacing.{fits-sized}
+use Rattle.checks.specs.Checks.{heldCheck}
+use Rattle.checks.proofs.Replacing.{fits-sized}
 use borrow.Author.Needs.{needs}
-use Rattle.sparrowhem.proofs.edit.check_held.Statement.{statement}
-use Rattle.sparrowhem.proofs.edit.check_held.Tie as tie
+use Rattle.checks.proofs.edit.check_held.Statement.{statement}
+use Rattle.checks.proofs.edit.check_held.Tie as tie
 
 fine : (c : tie.After-enum-told2)
     → sizes (c .before .before .before .before .before .before .before .before .before .before .args .n) (min (length (now (c .before .before .before .before .before .before .before .before .before .before .args .row))) (length (now (c .before .before .before .before .before .before .before .before .before .before .args .table)))) ≡ Fine

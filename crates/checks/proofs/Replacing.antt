@@ -23,8 +23,8 @@ use Rattle.edits.specs.Replace.{grown, Replaceable}
 use Rattle.edits.proofs.Put.{below}
 use Rattle.edits.proofs.Place.{position-past, position-in, grown-fits, grown-fine}
 use Rattle.edits.proofs.Replace.{new-length}
-use Rattle.sparrowhem.specs.Edit.{heldCheck, replaceCheck}
-use Rattle.sparrowhem.proofs.Handing.{position-fine}
+use Rattle.checks.specs.Checks.{heldCheck, replaceCheck}
+use Rattle.checks.proofs.Passing.{position-fine}
 
 -- a row that is the first n places of its buffer, with its table: what refusals 1 to 10 leave
 pub record Held (A row t : List ℕ) (n : ℕ) : Type 0 where

@@ -1,12 +1,12 @@
--- `sparrowhem::check_build` meets its contract. The checks on the way decide each case.
+-- `checks::table::check_build` meets its contract. The checks on the way decide each case.
 -- Assumes nothing.
 use mathlib.Core.Path.{sym, _∙_}
 use lib.ListN.{length}
 use Rattle.tables.proofs.Given.{sizes-fits}
-use Rattle.sparrowhem.specs.Build.{buildCheck}
+use Rattle.checks.specs.Checks.{buildCheck}
 use borrow.Author.Needs.{needs}
-use Rattle.sparrowhem.proofs.table.check_build.Statement.{statement}
-use Rattle.sparrowhem.proofs.table.check_build.Tie as tie
+use Rattle.checks.proofs.table.check_build.Statement.{statement}
+use Rattle.checks.proofs.table.check_build.Tie as tie
 
 check-alphabet-requires : tie.Need-check-alphabet-requires
 check-alphabet-requires c κs = search needs

@@ -1,4 +1,4 @@
--- `sparrowhem::edit::check_replace` meets its contract. The checks on the way decide each case.
+-- `checks::edit::check_replace` meets its contract. The checks on the way decide each case.
 -- Assumes nothing.
 -- what the row, its table and the replacement are, once their checks are through
 use Prim.Native.Nat.{ℕ, _+_, _-_, min}
@@ -8,11 +8,11 @@ use denote.Ref.{now}
 use Rattle.rows.specs.Refusals.{_then_, asReplacement, replacement, position}
 use Rattle.rows.specs.declared.Check.the-variants.{Fine}
 use Rattle.edits.specs.Replace.{grown}
-use Rattle.sparrowhem.specs.Edit.{replaceCheck}
-use Rattle.sparrowhem.proofs.Replacing.{Held, held-fine, held-end, replacement-fine, place-check}
+use Rattle.checks.specs.Checks.{replaceCheck}
+use Rattle.checks.proofs.Replacing.{Held, held-fine, held-end, replacement-fine, place-check}
 use borrow.Author.Needs.{needs}
-use Rattle.sparrowhem.proofs.edit.check_replace.Statement.{statement}
-use Rattle.sparrowhem.proofs.edit.check_replace.Tie as tie
+use Rattle.checks.proofs.edit.check_replace.Statement.{statement}
+use Rattle.checks.proofs.edit.check_replace.Tie as tie
 
 held : (c : tie.After-enum-told2) → Held (now (c .before .before .before .before .before .before .before .before .before .before .args .arities)) (now (c .before .before .before .before .before .before .before .before .before .before .args .row)) (now (c .before .before .before .before .before .before .before .before .before .before .args .table)) (c .before .before .before .before .before .before .before .before .before .before .args .n)
 held c =

@@ -1,4 +1,4 @@
--- `sparrowhem::parts::recorded` meets its contract, case by case.
+-- `checks::parts::recorded` meets its contract, case by case.
 -- Assumes nothing.
 use mathlib.Core.Path.{_≡_, refl}
 use mathlib.Core.List.{List, [], _∷_}
@@ -8,10 +8,10 @@ use types.Run.{OneOf, miss}
 use Rattle.rows.proofs.Refusal.{the-type}
 use Rattle.rows.specs.declared.Refusal.{Refusal}
 use Rattle.rows.specs.declared.Refusal.the-variants.{AlphabetSize, ArityOver, NoLeaf, Row, BufferShort, Stale, OnRecord, OnRecordShort, OnRecordStale, Pattern, Replacement, Position, TooLong, OutputShort, Line, InputLong}
-use Rattle.sparrowhem.specs.Parts.{onRecord}
+use Rattle.checks.specs.Checks.{onRecord}
 use borrow.Author.Needs.{needs}
-use Rattle.sparrowhem.proofs.parts.recorded.Statement.{statement}
-use Rattle.sparrowhem.proofs.parts.recorded.Tie as tie
+use Rattle.checks.proofs.parts.recorded.Statement.{statement}
+use Rattle.checks.proofs.parts.recorded.Tie as tie
 
 -- the cases that stay, by their places in the enum
 abbrev others : List ℕ

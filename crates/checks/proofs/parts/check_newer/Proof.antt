@@ -1,10 +1,10 @@
--- `sparrowhem::parts::check_newer` meets its contract. The checks on the way decide each case.
+-- `checks::parts::check_newer` meets its contract. The checks on the way decide each case.
 -- Assumes nothing.
 use mathlib.Core.Path.{sym, _∙_}
-use Rattle.sparrowhem.specs.Parts.{newerCheck}
+use Rattle.checks.specs.Checks.{newerCheck}
 use borrow.Author.Needs.{needs}
-use Rattle.sparrowhem.proofs.parts.check_newer.Statement.{statement}
-use Rattle.sparrowhem.proofs.parts.check_newer.Tie as tie
+use Rattle.checks.proofs.parts.check_newer.Statement.{statement}
+use Rattle.checks.proofs.parts.check_newer.Tie as tie
 
 check-given-requires : tie.Need-check-given-requires
 check-given-requires c κs = search needs

@@ -1,10 +1,10 @@
--- `sparrowhem::search::check_search` meets its contract: the first of two checks that refuses.
+-- `checks::search::check_search` meets its contract: the first of two checks that refuses.
 -- Assumes nothing.
 use mathlib.Core.Path.{sym, _∙_}
-use Rattle.sparrowhem.specs.Search.{searchCheck}
+use Rattle.checks.specs.Checks.{searchCheck}
 use borrow.Author.Needs.{needs}
-use Rattle.sparrowhem.proofs.search.check_search.Statement.{statement}
-use Rattle.sparrowhem.proofs.search.check_search.Tie as tie
+use Rattle.checks.proofs.search.check_search.Statement.{statement}
+use Rattle.checks.proofs.search.check_search.Tie as tie
 
 check-given-requires : tie.Need-check-given-requires
 check-given-requires c κs = search needs

@@ -1,0 +1,4 @@
+pub mod Building
+pub mod Passing
+pub mod Renumbering
+pub mod Replacing

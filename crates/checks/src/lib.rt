@@ -1,0 +1,14 @@
+// What each public call refuses: the first refusal in document 01's order, or none.
+mod edit;
+mod matcher;
+mod parts;
+mod search;
+mod table;
+
+pub use edit::check_replace;
+pub use matcher::check_plain;
+pub use parts::check_newer;
+pub use parts::check_subtree;
+pub use search::check_search;
+pub use search::check_variables;
+pub use table::check_build;

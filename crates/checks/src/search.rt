@@ -1,0 +1,40 @@
+// What find and the variables call refuse.
+ghost use mathlib.Core.Path.{_≡_};
+ghost use Rattle.checks.specs.Checks.{searchCheck, variablesCheck};
+use rows::Check;
+use rows::Refusal;
+
+// Refusals 1 to 15.
+pub fn check_search(arities: &[u16], row: &[u16], table: &[u16], pattern: &[u16]) -> Check
+    ensures { λ r. ⌜ r ≡ searchCheck (now (arities .entry)) (now (row .entry)) (now (table .entry)) (now (pattern .entry)) ⌝ }
+{
+    match tables::check_given(arities, row, table) {
+        Check::Refused(r) => Check::Refused(r),
+        Check::Fine => patterns::check_pattern(arities, pattern),
+    }
+}
+
+// Refusals 1 to 15, 17, and 19 for an output of `places` places.
+pub fn check_variables(
+    arities: &[u16],
+    row: &[u16],
+    table: &[u16],
+    pattern: &[u16],
+    position: usize,
+    places: usize,
+) -> Check
+    ensures { λ r. ⌜ r ≡ variablesCheck (now (arities .entry)) (now (row .entry)) (now (table .entry)) (now (pattern .entry)) position places ⌝ }
+{
+    match check_search(arities, row, table, pattern) {
+        Check::Refused(r) => Check::Refused(r),
+        Check::Fine => {
+            if row.len() <= position {
+                return Check::Refused(Refusal::Position(position));
+            }
+            if places < 32 {
+                return Check::Refused(Refusal::OutputShort(32));
+            }
+            Check::Fine
+        }
+    }
+}
