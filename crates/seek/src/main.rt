@@ -1,5 +1,5 @@
 // `seek`: an alphabet, a row and a pattern on standard input; the matches, or a refusal, on standard output.
-// What it reads and writes is `seek_text`'s work; here the bytes come in and go out.
+// What it reads and writes is the work of `seek_text` and `seek_print`; here the bytes come in and go out.
 ghost use mathlib.Core.Path.{_≡_};
 ghost use mathlib.Core.List.{List};
 ghost use Prim.Native.Nat.{ℕ, _≤_};
@@ -63,7 +63,7 @@ fn write_found(
 )
     requires { ⌜ ((b : List ℕ) × AnswerFound b a e p count (now numbers) (now table) (now positions)) × (1053 ≤ length (now out)) ⌝ }
 {
-    let n = seek_text::print_count(out, count);
+    let n = seek_print::print_count(out, count);
     write_out(out, n);
     write_lines(
         &numbers[a..e],
@@ -78,7 +78,7 @@ fn write_found(
 fn write_refusal(refusal: Refusal, out: &mut [u8])
     requires { ⌜ 64 ≤ length (now out) ⌝ }
 {
-    let n = seek_text::print_refusal(out, refusal);
+    let n = seek_print::print_refusal(out, refusal);
     write_out(out, n);
 }
 

@@ -10,8 +10,8 @@ use Rattle.rows.specs.Buffers.{written}
 use Rattle.rows.specs.declared.Refusal.{Refusal}
 use Rattle.rows.specs.declared.Check.the-variants as check
 use Rattle.buffers.proofs.Written.{length-written}
+use Rattle.seek_print.specs.Print.{refusalText}
 use Rattle.seek_text.specs.Input.{Says, ListsRead}
-use Rattle.seek_text.specs.Print.{refusalText}
 use Rattle.seek_text.specs.Search.{seekCheck, MatchesFound, Prints, Prints.lists-refused, AnswerFound}
 
 module _ (b y : List ℕ) (a e p : ℕ) (n : List ℕ) (l : ListsRead b y a e p n) where

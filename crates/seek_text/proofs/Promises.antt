@@ -14,9 +14,9 @@ use Rattle.patterns.specs.Answers.{Listed}
 use Rattle.patterns.proofs.Listing.{listed-once}
 use Rattle.decimal.specs.Lines.{line, Small}
 use Rattle.decimal.proofs.Promises.{one-line}
+use Rattle.seek_print.specs.Print.{refusalText, countText}
 use Rattle.seek_text.specs.Input.{Says, Faulty, Faulty.here, Faulty.later, Faulty.extra, Refuses, Refuses.long, Refuses.faulty}
 use Rattle.seek_text.specs.declared.input.Input.the-variants.{Lists, Refused}
-use Rattle.seek_text.specs.Print.{refusalText, countText}
 use Rattle.seek_text.specs.Search.{seekCheck, linesText, Prints, Prints.input-refused, Prints.lists-refused, Prints.lists-searched, Pages, Pages.done, Pages.page}
 use Rattle.seek_text.specs.Promises.{Text-says, Input-accepted, Input-settled, Seek-settled, Pages-whole, Seek-prints}
 use Rattle.seek_text.proofs.Paging.{lines-split}

@@ -1,4 +1,3 @@
 pub mod Input
-pub mod Print
 pub mod Search
 pub mod Promises

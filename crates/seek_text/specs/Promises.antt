@@ -4,8 +4,8 @@ use mathlib.Core.Path.{_≡_}
 use mathlib.Core.List.{List, _++_}
 use mathlib.Core.Logic.{_↔_}
 use lib.ListN.{length, take, drop}
+use Rattle.seek_print.specs.Print.{countText}
 use Rattle.seek_text.specs.Input.{Says, InputRead}
-use Rattle.seek_text.specs.Print.{countText}
 use Rattle.seek_text.specs.Search.{linesText, Prints, AnswerFound, Pages}
 use Rattle.seek_text.specs.declared.input.Input.{Input}
 use Rattle.seek_text.specs.declared.input.Input.the-variants.{Lists}

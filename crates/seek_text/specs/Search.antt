@@ -14,8 +14,8 @@ use Rattle.patterns.specs.Searches.{Checked}
 use Rattle.decimal.specs.Printed.{Printed}
 use Rattle.sparrowhem.specs.declared.search.Found.{Found as Matching}
 use Rattle.sparrowhem.specs.declared.search.Found.the-variants.{Matches, Refused}
+use Rattle.seek_print.specs.Print.{refusalText, countText, matchText}
 use Rattle.seek_text.specs.Input.{Says, Refuses}
-use Rattle.seek_text.specs.Print.{refusalText, countText, matchText}
 use Rattle.seek_text.specs.declared.search.Answer.{Answer}
 use Rattle.seek_text.specs.declared.search.Answer.the-variants.{Found, Refused as AnswerRefused}
 use Rattle.seek_text.specs.declared.pages.Page.{Page}

@@ -4,7 +4,7 @@ ghost use Prim.Native.Nat.{ℕ, _+_, _≤_, _<_};
 ghost use lib.ListN.{length};
 ghost use Rattle.patterns.specs.Searches.{Searchable};
 ghost use Rattle.seek_text.specs.Search.{Ready, LinePrinted, PagePrinted};
-use crate::print::put_match;
+use seek_print::put_match;
 
 // The line of the match at p.
 fn put_line(row: &[u16], table: &[u16], pattern: &[u16], p: u16, out: &mut [u8], at: usize) -> usize

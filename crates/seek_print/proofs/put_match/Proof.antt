@@ -1,11 +1,11 @@
--- `seek_text::print::put_match` meets its contract: the pieces stand one behind the other.
+-- `seek_print::put_match` meets its contract: the pieces stand one behind the other.
 -- Assumes nothing.
 use native.Mathlib.Omega.{arith}
 use Rattle.decimal.proofs.Writing.{printed-more}
-use Rattle.seek_text.specs.Print.{matchText}
+use Rattle.seek_print.specs.Print.{matchText}
 use borrow.Author.Needs.{needs}
-use Rattle.seek_text.proofs.print.put_match.Statement.{statement}
-use Rattle.seek_text.proofs.print.put_match.Tie as tie
+use Rattle.seek_print.proofs.put_match.Statement.{statement}
+use Rattle.seek_print.proofs.put_match.Tie as tie
 
 slice-aggregate-put-bytes : tie.Need-slice-aggregate-put-bytes
 slice-aggregate-put-bytes c = search needs

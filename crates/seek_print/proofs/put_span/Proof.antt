@@ -1,12 +1,12 @@
--- `seek_text::print::put_span` meets its contract: the pieces stand one behind the other.
+-- `seek_print::put_span` meets its contract: the pieces stand one behind the other.
 -- Assumes nothing.
 use native.Mathlib.Omega.{arith}
 use borrow.Author.Tests.{eq-eqb, ne-eqb}
 use Rattle.decimal.proofs.Writing.{printed-none, printed-more}
-use Rattle.seek_text.specs.Print.{spanText}
+use Rattle.seek_print.specs.Print.{spanText}
 use borrow.Author.Needs.{needs}
-use Rattle.seek_text.proofs.print.put_span.Statement.{statement}
-use Rattle.seek_text.proofs.print.put_span.Tie as tie
+use Rattle.seek_print.proofs.put_span.Statement.{statement}
+use Rattle.seek_print.proofs.put_span.Tie as tie
 
 returns : tie.Need-returns
 unfolding spanText

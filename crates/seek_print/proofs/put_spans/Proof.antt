@@ -1,4 +1,4 @@
--- `seek_text::print::put_spans` meets its contract. The loop's invariant: the spans of the variables below v are printed.
+-- `seek_print::put_spans` meets its contract. The loop's invariant: the spans of the variables below v are printed.
 -- Assumes nothing.
 use Prim.Native.Nat.{_+_, _*_, _-_, _≤_}
 use mathlib.Core.Path.{_≡_, refl}
@@ -7,10 +7,10 @@ use native.Mathlib.Omega.{arith}
 use lib.ListN.{length}
 use Rattle.decimal.specs.Printed.{Printed}
 use Rattle.decimal.proofs.Writing.{printed-none, printed-more}
-use Rattle.seek_text.specs.Print.{spansText}
+use Rattle.seek_print.specs.Print.{spansText}
 use borrow.Author.Needs.{needs}
-use Rattle.seek_text.proofs.print.put_spans.Statement.{statement}
-use Rattle.seek_text.proofs.print.put_spans.Tie as tie
+use Rattle.seek_print.proofs.put_spans.Statement.{statement}
+use Rattle.seek_print.proofs.put_spans.Tie as tie
 
 abbrev Inv-loop : tie.InvT-loop
 Inv-loop out₀ at spans end₀ v₀ out end v =

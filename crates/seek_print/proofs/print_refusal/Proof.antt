@@ -1,11 +1,11 @@
--- `seek_text::print::print_refusal` meets its contract: the pieces stand one behind the other.
+-- `seek_print::print_refusal` meets its contract: the pieces stand one behind the other.
 -- Assumes nothing.
 use native.Mathlib.Omega.{arith}
 use Rattle.decimal.proofs.Writing.{printed-more}
-use Rattle.seek_text.specs.Print.{refusalText}
+use Rattle.seek_print.specs.Print.{refusalText}
 use borrow.Author.Needs.{needs}
-use Rattle.seek_text.proofs.print.print_refusal.Statement.{statement}
-use Rattle.seek_text.proofs.print.print_refusal.Tie as tie
+use Rattle.seek_print.proofs.print_refusal.Statement.{statement}
+use Rattle.seek_print.proofs.print_refusal.Tie as tie
 
 slice-aggregate-put-bytes : tie.Need-slice-aggregate-put-bytes
 slice-aggregate-put-bytes c = search needs

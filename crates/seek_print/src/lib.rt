@@ -1,8 +1,8 @@
-// The answer as text.
+// The answer of `seek` as text: a refusal, the number of the matches, and the line of a match.
 ghost use Prim.Native.Nat.{_+_, _≤_};
 ghost use lib.ListN.{length};
 ghost use Rattle.decimal.specs.Printed.{Printed};
-ghost use Rattle.seek_text.specs.Print.{refusalText, countText, spanText, spansText, matchText};
+ghost use Rattle.seek_print.specs.Print.{refusalText, countText, spanText, spansText, matchText};
 use rows::Refusal;
 
 // `refused N P`, at the front of a buffer.
