@@ -8,7 +8,8 @@ use Rattle.rows.specs.Tree.{size, prefix, ends}
 use Rattle.rows.specs.Parse.{table as tableOf}
 use Rattle.rows.specs.Row.{pick}
 use Rattle.rows.specs.Buffers.{written, after}
-use Rattle.rows.specs.Refusals.{_then_, number, place, alphabet, kept}
+use Rattle.rows.specs.Refusals.{_then_, alphabet, kept}
+use Rattle.numbers.specs.Numbers.{number, place}
 use Rattle.rows.specs.declared.Check.{Check}
 use Rattle.rows.specs.declared.Check.the-variants.{Fine, Refused}
 use Rattle.patterns.specs.Answers.{spans}

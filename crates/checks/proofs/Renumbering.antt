@@ -9,7 +9,8 @@ use lib.Dec.{ltb, eqb}
 use lib.ListN.{length}
 use Rattle.rows.specs.Parse.{table}
 use Rattle.rows.specs.Row.{pick, sized, verdict, allowed}
-use Rattle.rows.specs.Refusals.{number, place, _then_, asRow, sizes, symbols, differs, fresh, kept}
+use Rattle.numbers.specs.Numbers.{number, place}
+use Rattle.rows.specs.Refusals.{_then_, asRow, sizes, symbols, differs, fresh, kept}
 use Rattle.rows.specs.declared.Leaves.the-variants.{Symbols}
 use Rattle.rows.specs.declared.Fault.{Fault}
 use Rattle.rows.specs.declared.Fault.the-variants.{Empty, Long, Stray, Early, Extra}

@@ -25,9 +25,9 @@ pub fn refusal_of(refusal: Refusal) -> Answer
     ensures { λ r. ⌜ r ≡ refused refusal ⌝ }
 {
     Answer {
-        refusal: rows::number_of(refusal) as u32,
+        refusal: numbers::number_of(refusal) as u32,
         change: 0,
-        place: rows::place_of(refusal) as u64,
+        place: numbers::place_of(refusal) as u64,
         count: 0,
     }
 }

@@ -10,7 +10,8 @@ use borrow.Author.Tests.{lt-ltb}
 use lib.Dec.{ltb}
 use lib.ListN.{length, take}
 use Rattle.rows.specs.Row.{pick}
-use Rattle.rows.specs.Refusals.{number, _then_, pattern, position}
+use Rattle.numbers.specs.Numbers.{number}
+use Rattle.rows.specs.Refusals.{_then_, pattern, position}
 use Rattle.rows.specs.declared.Refusal.{Refusal}
 use Rattle.rows.specs.declared.Refusal.the-variants.{Position, OutputShort}
 use Rattle.rows.specs.declared.Check.{Check}

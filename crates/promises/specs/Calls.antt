@@ -9,7 +9,8 @@ use Rattle.rows.specs.Tree.{IsRow, single, ends}
 use Rattle.rows.specs.Parse.{table}
 use Rattle.rows.specs.Row.{pick, symbol}
 use Rattle.rows.specs.Buffers.{written, after}
-use Rattle.rows.specs.Refusals.{number, place, alphabet, sizes, kept, given}
+use Rattle.numbers.specs.Numbers.{number, place}
+use Rattle.rows.specs.Refusals.{alphabet, sizes, kept, given}
 use Rattle.rows.specs.declared.Refusal.{Refusal}
 use Rattle.rows.specs.declared.Refusal.the-variants.{OutputShort}
 use Rattle.rows.specs.declared.Check.{Check}

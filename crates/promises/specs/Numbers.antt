@@ -1,5 +1,5 @@
 -- Document 01's table of refusals, line by line: exactly when each number is given, and with which place. `number` in
--- crates/rows/specs/Refusals gives the number for each name. Proved in proofs/Numbers. (10 is `Stale-check` in Demands.)
+-- crates/numbers/specs/Numbers gives the number for each name. Proved in proofs/Numbers. (10 is `Stale-check` in Demands.)
 use Prim.Native.Nat.{ℕ, _<_, _≤_}
 use mathlib.Core.Path.{_≡_}
 use mathlib.Core.List.{List}

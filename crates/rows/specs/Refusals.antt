@@ -1,95 +1,18 @@
--- Refusals: their numbers and places in document 01, and the order in which they are given.
+-- Refusals: when each is given, and in which order.
 use Prim.Native.Nat.{ℕ, _+_}
 use mathlib.Core.List.{List, [], _∷_}
 use lib.Dec.{ltb, eqb}
 use lib.ListN.{length}
 use Rattle.rows.specs.Row.{pick, verdict, allowed, sized, reading}
 use Rattle.rows.specs.Parse.{table}
-use Rattle.rows.specs.declared.Fault.{Fault}
-use Rattle.rows.specs.declared.Fault.the-variants.{Empty, Long, Stray, Early, Extra}
 use Rattle.rows.specs.declared.Verdict.{Verdict}
 use Rattle.rows.specs.declared.Verdict.the-variants.{Whole, Faulty}
 use Rattle.rows.specs.declared.Leaves.the-variants.{Symbols, Blanks}
-use Rattle.rows.specs.declared.Refusal.{Refusal}
-use Rattle.rows.specs.declared.Refusal.the-variants.{AlphabetSize, ArityOver, NoLeaf, Row, BufferShort, Stale, OnRecord, OnRecordShort, OnRecordStale, Pattern, Replacement, Position, TooLong, OutputShort, Line, InputLong}
+use Rattle.rows.specs.declared.Refusal.the-variants.{AlphabetSize, ArityOver, NoLeaf, Row, BufferShort, Stale, Pattern, Replacement, Position}
 use Rattle.rows.specs.declared.Check.{Check}
 use Rattle.rows.specs.declared.Check.the-variants.{Fine, Refused}
 
 infixr 20 _then_
--- the number of a fault in a row; in the row on record; in a pattern; in a replacement
-abbrev pub rowNumber : Fault → ℕ
-rowNumber Empty = 4
-rowNumber (Long n) = 5
-rowNumber (Stray p) = 7
-rowNumber (Early n) = 8
-rowNumber (Extra p) = 9
-
-abbrev pub onRecordNumber : Fault → ℕ
-onRecordNumber Empty = 44
-onRecordNumber (Long n) = 45
-onRecordNumber (Stray p) = 47
-onRecordNumber (Early n) = 48
-onRecordNumber (Extra p) = 49
-
-abbrev pub patternNumber : Fault → ℕ
-patternNumber Empty = 11
-patternNumber (Long n) = 12
-patternNumber (Stray p) = 13
-patternNumber (Early n) = 14
-patternNumber (Extra p) = 15
-
-abbrev pub replacementNumber : Fault → ℕ
-replacementNumber Empty = 24
-replacementNumber (Long n) = 25
-replacementNumber (Stray p) = 27
-replacementNumber (Early n) = 28
-replacementNumber (Extra p) = 29
-
-abbrev pub faultPlace : Fault → ℕ
-faultPlace Empty = 0
-faultPlace (Long n) = n
-faultPlace (Stray p) = p
-faultPlace (Early n) = n
-faultPlace (Extra p) = p
-
--- document 01's number of a refusal
-abbrev pub number : Refusal → ℕ
-number (AlphabetSize n) = 1
-number (ArityOver s) = 2
-number NoLeaf = 3
-number (Row f) = rowNumber f
-number (BufferShort n) = 6
-number (Stale p) = 10
-number (OnRecord f) = onRecordNumber f
-number (OnRecordShort n) = 46
-number (OnRecordStale p) = 50
-number (Pattern f) = patternNumber f
-number (Replacement f) = replacementNumber f
-number (Position p) = 17
-number (TooLong n) = 18
-number (OutputShort n) = 19
-number (Line k) = 60
-number InputLong = 61
-
--- document 01's place of a refusal
-abbrev pub place : Refusal → ℕ
-place (AlphabetSize n) = n
-place (ArityOver s) = s
-place NoLeaf = 0
-place (Row f) = faultPlace f
-place (BufferShort n) = n
-place (Stale p) = p
-place (OnRecord f) = faultPlace f
-place (OnRecordShort n) = n
-place (OnRecordStale p) = p
-place (Pattern f) = faultPlace f
-place (Replacement f) = faultPlace f
-place (Position p) = p
-place (TooLong n) = n
-place (OutputShort n) = n
-place (Line k) = k
-place InputLong = 65536
-
 -- the first of two checks that refuses: the order of the refusals is the order of the checks in such a chain
 abbrev pub _then_ : Check → Check → Check
 Fine then c = c
