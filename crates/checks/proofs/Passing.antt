@@ -20,7 +20,7 @@ use Rattle.checks.specs.Checks.{subtreeCheck, searchCheck, output, varia
 use Rattle.rows.specs.declared.Leaves.the-variants.{Blanks, Symbols}
 use Rattle.rows.specs.declared.Verdict.{Verdict}
 use Rattle.rows.specs.declared.Verdict.the-variants.{Whole, Faulty}
-use Rattle.patterns.specs.Searches.{Checked}
+use Rattle.patterns.specs.Searchable.{Checked}
 use Rattle.rows.proofs.Scan.{sized-fits}
 use Rattle.patterns.proofs.Matching.{both-whole}
 

@@ -19,7 +19,7 @@ use Rattle.rows.specs.declared.Check.the-variants.{Fine, Refused}
 use Rattle.rows.specs.declared.Refusal.{Refusal}
 use Rattle.rows.specs.declared.Refusal.the-variants.{OutputShort, Pattern}
 use Rattle.rows.specs.declared.Fault.the-variants.{Long}
-use Rattle.patterns.proofs.Listing.{room-enough}
+use Rattle.searches.proofs.Counting.{room-enough}
 use Rattle.wire.specs.Wire.{numbers, bytesOf, Bytes}
 use Rattle.wire.proofs.Numbers.{write-read, written-again}
 use Rattle.checks.specs.Checks.{searchCheck, output, findCheck}

@@ -1,7 +1,7 @@
 -- After a walk that comes through, each mark is that of the position which the variable's first place faces.
 -- Assumes nothing.
 use Prim.Native.Nat.{ℕ, zero, suc, _+_, _-_, _≤_, _<_}
-use mathlib.Core.Path.{_≡_, refl, sym, ap, ap₂, _∙_}
+use mathlib.Core.Path.{_≡_, refl, sym, ap, _∙_}
 use mathlib.Core.List.{List, [], _∷_, _++_, append-assoc, append-nil}
 use mathlib.Core.Bool.{Bool, true, false}
 use native.Mathlib.Omega.{arith}
@@ -12,23 +12,21 @@ use lib.Dec.{eqb, ltb→lt}
 use lib.ListN.{getD, length, set, length-append, List·getD-append, List·getD-eq-default}
 use lib.Seq.{getD-set-same, getD-set-other, getD-append-add}
 use Rattle.rows.specs.Tree.{Forest, Forest.none, Forest.grow, Tree, single, size, prefix, Ranked, subtreeAt}
-use Rattle.rows.specs.Parse.{parse, treeOf, table}
+use Rattle.rows.specs.Parse.{parse, treeOf}
 use Rattle.rows.specs.Row.{pick, allowed}
-use Rattle.rows.specs.Buffers.{written}
 use Rattle.rows.specs.declared.Leaves.the-variants.{Blanks, Symbols}
 use Rattle.rows.proofs.Accept.{enough}
-use Rattle.tables.proofs.Given.{right-entry}
 use Rattle.patterns.specs.Pattern.{leaf}
 use Rattle.patterns.specs.Answers.{faced, facing, isLeaf, span, spansBelow}
-use Rattle.patterns.specs.Searches.{Checked, Binds}
-use Rattle.patterns.specs.Walk.{sameSymbol, agreeing, Outcome, Outcome.misses, Outcome.reaches, meets, takes, steps, onward, walk, unmarked, markBegin, markEnd, markSpans}
+use Rattle.patterns.specs.Searchable.{Checked}
+use Rattle.patterns.specs.Walk.{sameSymbol, agreeing, Outcome, Outcome.misses, Outcome.reaches, meets, takes, steps, onward, walk, unmarked, markBegin, markEnd}
 use Rattle.patterns.specs.declared.Leaf.{Leaf}
 use Rattle.patterns.specs.declared.Leaf.the-variants.{Plain, Blank, Variable}
 use Rattle.patterns.proofs.Leaves.{Kind, kind, plain-symbol, leaf-alone}
 use Rattle.patterns.proofs.Standing.{Stands, planted-at, stands-end, stands-children, stands-siblings}
 use Rattle.patterns.proofs.Fits.{Fits, FitsLeaf}
 use Rattle.patterns.proofs.Marks.{picks, unmarked-zero, Keeps, keeps-steps, kept}
-use Rattle.patterns.proofs.Matching.{checked-pattern, walk-marks, walk-fits, walk-matches, missed}
+use Rattle.patterns.proofs.Matching.{checked-pattern, walk-fits}
 
 -- the row positions at which a walk meets the numbers of the pattern
 abbrev past : List ℕ → ℕ → Leaf → ℕ
@@ -254,34 +252,3 @@ module _ (A w e q : List ℕ) (c : Checked A w e q) (p : ℕ) (inside : p < leng
     -- each mark is that of the position which the variable's first place faces
     pub mark-is : (i : ℕ) → i < 16 → getD ms i 0 ≡ seat i q (facing A w q p)
     mark-is i h = seats w e small i h q p unmarked j ms refl z (unmarked-zero i) ∙ ap (seat i q) met
-
-    mark-end : (m : ℕ) → m ≤ length w → markEnd e m ≡ markEnd (table A w) m
-    mark-end zero h = refl
-    mark-end (suc a) h = right-entry A w e (c .row) a (omega arith)
-
-    -- so the spans of the marks are those of the variables
-    pub mark-spans : (n : ℕ) → n ≤ 16 → markSpans e ms n ≡ spansBelow (table A w) n q (facing A w q p)
-    unfolding markSpans spansBelow
-    mark-spans zero h = refl
-    mark-spans (suc n) h =
-        ap₂ (λ (x y : List ℕ). x ++ y) (mark-spans n (omega arith))
-        (ap (λ (k : ℕ). markBegin (getD ms n 0) ∷ k ∷ []) (mark-end (getD ms n 0) (walk-marks A w e q c p inside j ms z .all n))
-        ∙ ap (λ (m : ℕ). markBegin m ∷ markEnd (table A w) m ∷ []) (mark-is n (omega arith))
-        ∙ sym (span-seat (table A w) n q (facing A w q p)))
-
--- what the variables call answers
-pub binds-none : (w e q : List ℕ) (p : ℕ) (y : List ℕ) (k : ℕ) → p < length w → walk w e q p unmarked ≡ misses k
-    → (A : List ℕ) → Checked A w e q → Binds A w q p y false y
-binds-none w e q p y k inside z A c =
-    record {
-      answer = (λ f. (let x : _≡_ {A = ℕ} 0 1 = cc in absurd (omega arith)), λ m. absurd (missed A w e q c p inside k z m));
-      buffer = refl;
-    }
-
-pub binds-some : (w e q : List ℕ) (p : ℕ) (y y′ : List ℕ) (j : ℕ) (ms : List ℕ) → p < length w → walk w e q p unmarked ≡ reaches j ms
-    → y′ ≡ written y 0 (markSpans e ms 16) → (A : List ℕ) → Checked A w e q → Binds A w q p y true y′
-binds-some w e q p y y′ j ms inside z b A c =
-    record {
-      answer = (λ f. walk-matches A w e q c p inside j ms z, λ m. refl);
-      buffer = b ∙ ap (written y 0) (mark-spans A w e q c p inside j ms z 16 (omega arith));
-    }

@@ -7,8 +7,5 @@ pub mod Walks
 pub mod Matching
 pub mod Listing
 pub mod Facing
-pub mod Going
-pub mod Writing
 pub mod Steps
-pub mod Searching
 pub mod Promises

@@ -18,7 +18,7 @@ use Rattle.rows.proofs.Accept.{count-parse, ranked-parse, lone}
 use Rattle.rows.proofs.Scan.{sized-fits}
 use Rattle.tables.proofs.Given.{right-bounds}
 use Rattle.patterns.specs.Answers.{MatchesAt}
-use Rattle.patterns.specs.Searches.{Checked}
+use Rattle.patterns.specs.Searchable.{Checked}
 use Rattle.patterns.specs.Walk.{Outcome, Outcome.misses, Outcome.reaches, walk, unmarked, through, comesThrough, Ends, MarksIn}
 use Rattle.patterns.proofs.Standing.{Planted, planted-at, planted-once, stands-end}
 use Rattle.patterns.proofs.Fits.{Fits, fits-matches, matches-fits}

@@ -12,7 +12,7 @@ use Rattle.rows.proofs.Entry.{length-table, entry-bounds}
 use Rattle.rows.proofs.Subtrees.{subtree-row}
 use Rattle.patterns.specs.Pattern.{leaf}
 use Rattle.patterns.specs.Answers.{MatchesAt, facing, spans}
-use Rattle.patterns.specs.Searches.{Checked}
+use Rattle.patterns.specs.Searchable.{Checked}
 use Rattle.patterns.specs.Walk.{Outcome.reaches, walk, unmarked, markBegin, markEnd}
 use Rattle.patterns.specs.declared.Leaf.the-variants.{Variable}
 use Rattle.patterns.specs.Promises.{One-list, Walk-right, Walk-lists, Spans-long, Spanned, Span-present, Span-first, Span-absent}

@@ -1,5 +1,5 @@
 pub mod Pattern
 pub mod Answers
-pub mod Searches
+pub mod Searchable
 pub mod Walk
 pub mod Promises

@@ -10,7 +10,7 @@ use Rattle.rows.specs.Tree.{single, prefix, subtreeAt}
 use Rattle.rows.specs.Parse.{parse, table}
 use Rattle.patterns.specs.Pattern.{leaf}
 use Rattle.patterns.specs.Answers.{MatchesAt, Listed, facing, spans}
-use Rattle.patterns.specs.Searches.{Checked}
+use Rattle.patterns.specs.Searchable.{Checked}
 use Rattle.patterns.specs.Walk.{comesThrough, listOf}
 use Rattle.patterns.specs.declared.Leaf.the-variants.{Variable}
 

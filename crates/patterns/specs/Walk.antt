@@ -120,8 +120,3 @@ markBegin (suc a) = a
 abbrev pub markEnd : List ℕ → ℕ → ℕ
 markEnd e zero = 0
 markEnd e (suc a) = getD e a 0
-
--- begin, then end, for each of the first n marks
-unfoldable pub markSpans : List ℕ → List ℕ → ℕ → List ℕ
-markSpans e ms zero = []
-markSpans e ms (suc i) = markSpans e ms i ++ (markBegin (getD ms i 0) ∷ markEnd e (getD ms i 0) ∷ [])

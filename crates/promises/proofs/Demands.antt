@@ -29,7 +29,7 @@ use Rattle.rows.proofs.Entry.{length-table}
 use Rattle.rows.proofs.Parse.{size-parse}
 use Rattle.rows.proofs.Promises.{reads-rows, tree-of-row}
 use Rattle.tables.proofs.Given.{both-fine, row-fine, sizes-fits, given-right, right-entry}
-use Rattle.patterns.specs.Searches.{Checked}
+use Rattle.patterns.specs.Searchable.{Checked}
 use Rattle.patterns.specs.Walk.{comesThrough, listOf}
 use Rattle.patterns.specs.Answers.{MatchesAt, facing, spans}
 use Rattle.patterns.specs.Pattern.{Choice, filled}

@@ -23,8 +23,8 @@ use Rattle.rows.proofs.Entry.{length-table}
 use Rattle.tables.proofs.Differ.{differs-same}
 use Rattle.tables.proofs.Given.{both-fine, sizes-fits}
 use Rattle.patterns.specs.Answers.{Listed}
-use Rattle.patterns.specs.Searches.{Checked}
-use Rattle.patterns.proofs.Listing.{listed-length}
+use Rattle.patterns.specs.Searchable.{Checked}
+use Rattle.searches.proofs.Counting.{listed-length}
 use Rattle.buffers.proofs.Written.{length-written}
 use Rattle.checks.specs.Checks.{buildCheck}
 use Rattle.sparrowhem.specs.Build.{Built}

@@ -13,7 +13,7 @@ use Rattle.rows.specs.Parse.{table}
 use Rattle.rows.specs.Buffers.{written}
 use Rattle.rows.proofs.Buffers.{written-front}
 use Rattle.patterns.specs.Answers.{MatchesAt, isLeaf, span, spansBelow, spans}
-use Rattle.patterns.specs.Searches.{Binds}
+use Rattle.searches.specs.Searches.{Binds}
 use Rattle.patterns.specs.Pattern.{leaf}
 use Rattle.patterns.proofs.Listing.{mem-at}
 use Rattle.decimal.specs.Printed.{Printed}

@@ -10,7 +10,7 @@ use Rattle.rows.specs.declared.Refusal.{Refusal}
 use Rattle.rows.specs.declared.Check.{Check}
 use Rattle.rows.specs.declared.Check.the-variants as check
 use Rattle.patterns.specs.Answers.{MatchesAt, Listed, spans}
-use Rattle.patterns.specs.Searches.{Checked}
+use Rattle.patterns.specs.Searchable.{Checked}
 use Rattle.decimal.specs.Printed.{Printed}
 use Rattle.sparrowhem.specs.declared.search.Found.{Found as Matching}
 use Rattle.sparrowhem.specs.declared.search.Found.the-variants.{Matches, Refused}

@@ -2,7 +2,7 @@
 ghost use mathlib.Core.List.{List};
 ghost use Prim.Native.Nat.{ℕ, _+_, _≤_, _<_};
 ghost use lib.ListN.{length};
-ghost use Rattle.patterns.specs.Searches.{Searchable};
+ghost use Rattle.patterns.specs.Searchable.{Searchable};
 ghost use Rattle.seek_text.specs.Search.{Ready, LinePrinted, PagePrinted};
 use seek_print::put_match;
 
@@ -13,7 +13,7 @@ fn put_line(row: &[u16], table: &[u16], pattern: &[u16], p: u16, out: &mut [u8],
 {
     let position = p as usize;
     let mut spans = [0u16; 32];
-    patterns::variables_at(row, table, pattern, position, &mut spans);
+    searches::variables_at(row, table, pattern, position, &mut spans);
     put_match(out, at, p, table[position], &spans)
 }
 

@@ -11,7 +11,8 @@ use Rattle.rows.specs.Parse.{parse, table}
 use Rattle.rows.proofs.Entry.{entry-bounds}
 use Rattle.rows.proofs.Subtrees.{subtree-row}
 use Rattle.tables.proofs.Given.{right-entry}
-use Rattle.patterns.specs.Searches.{Checked, Next}
+use Rattle.patterns.specs.Searchable.{Checked}
+use Rattle.searches.specs.Searches.{Next}
 use Rattle.sparrowhem.specs.Parts.{FirstMatch, NoMatch, NewestSays}
 use Rattle.sparrowhem.specs.declared.parts.Newest.{Newest}
 use Rattle.sparrowhem.specs.declared.parts.Newest.the-variants.{Corrected, OnRecord as OnRecordAt, Nowhere, Refused as NewestRefused}

@@ -20,7 +20,7 @@ use Rattle.rows.specs.declared.Check.{Check}
 use Rattle.rows.specs.declared.Check.the-variants.{Fine, Refused}
 use Rattle.tables.proofs.Given.{both-fine}
 use Rattle.patterns.specs.Answers.{MatchesAt, Listed, spans}
-use Rattle.patterns.specs.Searches.{Lists, Binds as Bound-at}
+use Rattle.searches.specs.Searches.{Lists, Binds as Bound-at}
 use Rattle.patterns.specs.Walk.{comesThrough}
 use Rattle.patterns.proofs.Promises.{one-list, walk-right}
 use Rattle.checks.specs.Checks.{searchCheck, output, findCheck, variablesCheck}

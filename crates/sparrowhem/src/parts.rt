@@ -63,11 +63,11 @@ pub fn newer_answer(
     ) {
         Check::Refused(r) => Newest::Refused(r),
         Check::Fine => {
-            let p = patterns::next_match(corrected, corrected_table, pattern, 0);
+            let p = searches::next_match(corrected, corrected_table, pattern, 0);
             if p < corrected.len() {
                 return Newest::Corrected(p, corrected_table[p] as usize);
             }
-            let q = patterns::next_match(record, record_table, pattern, 0);
+            let q = searches::next_match(record, record_table, pattern, 0);
             if q < record.len() {
                 return Newest::OnRecord(q, record_table[q] as usize);
             }

@@ -24,7 +24,7 @@ pub fn find(arities: &[u16], row: &[u16], table: &[u16], pattern: &[u16], out: &
     match checks::check_search(arities, row, table, pattern) {
         Check::Refused(r) => Found::Refused(r),
         Check::Fine => {
-            let count = patterns::list_matches(row, table, pattern, out);
+            let count = searches::list_matches(row, table, pattern, out);
             if out.len() < count {
                 return Found::Refused(Refusal::OutputShort(count));
             }
@@ -48,7 +48,7 @@ pub fn variables(
     match checks::check_variables(arities, row, table, pattern, position, out.len()) {
         Check::Refused(r) => Bound::Refused(r),
         Check::Fine => {
-            if patterns::variables_at(row, table, pattern, position, out) {
+            if searches::variables_at(row, table, pattern, position, out) {
                 return Bound::Matched;
             }
             Bound::Unmatched

@@ -3,7 +3,7 @@
 use mathlib.Core.Path.{_≡_, sym, _∙_}
 use native.Mathlib.Omega.{arith}
 use Rattle.rows.specs.declared.Check.the-variants.{Fine}
-use Rattle.patterns.specs.Searches.{Checked}
+use Rattle.patterns.specs.Searchable.{Checked}
 use Rattle.checks.specs.Checks.{newerCheck}
 use Rattle.checks.proofs.Passing.{newer-checked}
 use Rattle.sparrowhem.proofs.Preferring.{first-match, no-match}

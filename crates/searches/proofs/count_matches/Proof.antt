@@ -1,14 +1,14 @@
--- `patterns::count_matches` meets its contract: the matches below p are counted, and p is the next one.
+-- `searches::count_matches` meets its contract: the matches below p are counted, and p is the next one.
 -- Assumes nothing.
 use Prim.Native.Nat.{ℕ, _-_, _≤_}
 use mathlib.Core.List.{List}
 use native.Mathlib.Omega.{arith}
 use lib.ListN.{length}
-use Rattle.patterns.specs.Searches.{Checked}
-use Rattle.patterns.proofs.Listing.{Tally, tally-start, tally-more, tally-end}
+use Rattle.patterns.specs.Searchable.{Checked}
+use Rattle.searches.proofs.Counting.{Tally, tally-start, tally-more, tally-end}
 use borrow.Author.Needs.{needs}
-use Rattle.patterns.proofs.count_matches.Statement.{statement}
-use Rattle.patterns.proofs.count_matches.Tie as tie
+use Rattle.searches.proofs.count_matches.Statement.{statement}
+use Rattle.searches.proofs.count_matches.Tie as tie
 
 abbrev Inv-loop : tie.InvT-loop
 Inv-loop row table pattern count₀ p₀ count p =

@@ -1,11 +1,11 @@
--- `patterns::mark_end` meets its contract.
+-- `searches::mark_end` meets its contract.
 -- Assumes nothing.
 use mathlib.Core.Path.{sym, ap}
 use Rattle.patterns.specs.Walk.{markEnd}
-use Rattle.patterns.proofs.Writing.{end-later}
+use Rattle.searches.proofs.Writing.{end-later}
 use borrow.Author.Needs.{needs}
-use Rattle.patterns.proofs.mark_end.Statement.{statement}
-use Rattle.patterns.proofs.mark_end.Tie as tie
+use Rattle.searches.proofs.mark_end.Statement.{statement}
+use Rattle.searches.proofs.mark_end.Tie as tie
 
 returns : tie.Need-returns
 returns c = sym (ap (markEnd (c .before .args .table .now)) (c .if1 .taken))

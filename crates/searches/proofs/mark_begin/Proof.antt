@@ -1,11 +1,11 @@
--- `patterns::mark_begin` meets its contract.
+-- `searches::mark_begin` meets its contract.
 -- Assumes nothing.
 use mathlib.Core.Path.{sym, ap}
 use Rattle.patterns.specs.Walk.{markBegin}
-use Rattle.patterns.proofs.Writing.{begin-later}
+use Rattle.searches.proofs.Writing.{begin-later}
 use borrow.Author.Needs.{needs}
-use Rattle.patterns.proofs.mark_begin.Statement.{statement}
-use Rattle.patterns.proofs.mark_begin.Tie as tie
+use Rattle.searches.proofs.mark_begin.Statement.{statement}
+use Rattle.searches.proofs.mark_begin.Tie as tie
 
 sub-result : tie.Need-sub-result
 sub-result c = search needs

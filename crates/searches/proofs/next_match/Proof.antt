@@ -1,4 +1,4 @@
--- `patterns::next_match` meets its contract. The outer invariant: from `from` up to p there is no match. The inner one: the
+-- `searches::next_match` meets its contract. The outer invariant: from `from` up to p there is no match. The inner one: the
 -- walk that is left from pattern place k decides the walk from p. A mismatch takes the outer loop's step, so p is among
 -- what the inner loop changes.
 -- Assumes nothing.
@@ -7,18 +7,18 @@ use mathlib.Core.Logic.{⊎-elim}
 use mathlib.Core.List.{List, [], _∷_}
 use denote.Enum.Declared.{tagOf}
 use types.Run.{OneOf}
 use Rattle.patterns.specs.declared.Leaf.{Leaf}
-use Rattle.patterns.proofs.Leaf.{the-type}
 use Rattle.patterns.specs.declared.Leaf.the-variants.{Plain}
+use Rattle.patterns.proofs.Leaf.{the-type}
 use mathlib.Core.Path.{_≡_, refl, sym, ap, _∙_, subst, subst₂}
 use native.Mathlib.Omega.{arith}
 use lib.ListN.{length}
 use Rattle.patterns.proofs.Matching.{checked-ends, checked-pattern}
-use Rattle.patterns.proofs.Going.{Walking, walking-inside, walking-same, walking-next, walking-miss, walking-end}
-use Rattle.patterns.proofs.Searching.{next-bare, Passed, passed-none, passed-more, next-here, next-none, root-same, root-other}
+use Rattle.searches.proofs.Going.{Walking, walking-inside, walking-same, walking-next, walking-miss, walking-end}
+use Rattle.searches.proofs.Searching.{next-bare, Passed, passed-none, passed-more, next-here, next-none, root-same, root-other}
 use borrow.Author.Needs.{needs}
-use Rattle.patterns.proofs.next_match.Statement.{statement}
-use Rattle.patterns.proofs.next_match.Tie as tie
+use Rattle.searches.proofs.next_match.Statement.{statement}
+use Rattle.searches.proofs.next_match.Tie as tie
 
 -- a number whose tag is that of S or of a variable is not plain
 told-apart : (l : Leaf) → l ≡ Plain → OneOf (1 ∷ 2 ∷ []) (tagOf the-type l) → ⊥

@@ -1,15 +1,15 @@
--- `patterns::write_spans` meets its contract: after i turns the spans of the first i marks stand in the buffer.
+-- `searches::write_spans` meets its contract: after i turns the spans of the first i marks stand in the buffer.
 -- Assumes nothing.
 use Prim.Native.Nat.{_≤_, _-_, _+_}
 use mathlib.Core.Path.{_≡_, refl, ap, _∙_}
 use native.Mathlib.Omega.{arith}
 use lib.ListN.{length, set, length-set}
 use Rattle.rows.specs.Buffers.{written}
-use Rattle.patterns.specs.Walk.{markSpans}
-use Rattle.patterns.proofs.Writing.{written-none, marks-more}
+use Rattle.searches.specs.Spans.{markSpans}
+use Rattle.searches.proofs.Writing.{written-none, marks-more}
 use borrow.Author.Needs.{needs}
-use Rattle.patterns.proofs.write_spans.Statement.{statement}
-use Rattle.patterns.proofs.write_spans.Tie as tie
+use Rattle.searches.proofs.write_spans.Statement.{statement}
+use Rattle.searches.proofs.write_spans.Tie as tie
 
 abbrev Inv-loop : tie.InvT-loop
 Inv-loop table out₀ marks i₀ out i =

@@ -1,4 +1,4 @@
--- `patterns::write_matches` meets its contract: the matches below p are written, and p is the next one.
+-- `searches::write_matches` meets its contract: the matches below p are written, and p is the next one.
 -- Assumes nothing.
 use Prim.Native.Nat.{ℕ, _-_, _≤_, _<_}
 use mathlib.Core.Path.{_≡_, refl, ap, _∙_}
@@ -6,12 +6,12 @@ use mathlib.Core.List.{List}
 use native.Mathlib.Omega.{arith}
 use lib.ListN.{length, set, length-set}
 use Rattle.rows.specs.Buffers.{written}
-use Rattle.patterns.specs.Searches.{Checked}
-use Rattle.patterns.proofs.Listing.{Tally, tally-start, tally-more, tally-end, tally-room, lists-all}
-use Rattle.patterns.proofs.Writing.{written-none, written-more}
+use Rattle.patterns.specs.Searchable.{Checked}
+use Rattle.searches.proofs.Counting.{Tally, tally-start, tally-more, tally-end, tally-room, lists-all}
+use Rattle.searches.proofs.Writing.{written-none, written-more}
 use borrow.Author.Needs.{needs}
-use Rattle.patterns.proofs.write_matches.Statement.{statement}
-use Rattle.patterns.proofs.write_matches.Tie as tie
+use Rattle.searches.proofs.write_matches.Statement.{statement}
+use Rattle.searches.proofs.write_matches.Tie as tie
 
 abbrev Inv-loop : tie.InvT-loop
 Inv-loop row table pattern out₀ count₀ p₀ out count p =

@@ -6,23 +6,10 @@ use mathlib.Core.Bool.{Bool, true}
 use mathlib.Core.Logic.{_↔_}
 use lib.Dec.{leb}
 use lib.ListN.{length}
-use Rattle.rows.specs.Row.{pick, reading}
+use Rattle.rows.specs.Row.{pick}
 use Rattle.rows.specs.Buffers.{written}
-use Rattle.rows.specs.declared.Leaves.the-variants.{Blanks}
-use Rattle.rows.specs.declared.Verdict.the-variants.{Whole}
-use Rattle.tables.specs.Given.{Right}
 use Rattle.patterns.specs.Answers.{MatchesAt, Listed, spans}
-
--- what refusals 1 to 15 leave: an alphabet of at most 1,024 symbols, an accepted row with its table, an accepted pattern
-pub record Checked (A w t q : List ℕ) : Type 0 where
-  pub few : length A ≤ 1024
-  pub row : Right A w t
-  pub pattern : reading A Blanks 256 q ≡ Whole
-
--- row, table and pattern are accepted for some alphabet. (The search does not look at it, and what it answers holds for
--- each alphabet for which they are.)
-abbrev pub Searchable : List ℕ → List ℕ → List ℕ → Type 0
-Searchable w t q = (A : List ℕ) × Checked A w t q
+use Rattle.patterns.specs.Searchable.{Checked}
 
 -- `r` is the first match from `from` on, or the row's length if there is none
 pub record Next (A w q : List ℕ) (from r : ℕ) : Type 0 where

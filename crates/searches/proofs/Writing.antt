@@ -8,7 +8,8 @@ use native.Mathlib.Numerals.{add-one}
 use lib.ListN.{length, getD, drop, set, length-append}
 use lib.Seq.{drop-cons, set-at}
 use Rattle.rows.specs.Buffers.{written}
-use Rattle.patterns.specs.Walk.{markBegin, markEnd, markSpans}
+use Rattle.patterns.specs.Walk.{markBegin, markEnd}
+use Rattle.searches.specs.Spans.{markSpans}
 
 pub written-none : (y : List ℕ) → y ≡ written y 0 []
 unfolding written

@@ -9,15 +9,16 @@ use native.Mathlib.Decide.{ℕ-discrete}
 use lib.ListN.{getD, length}
 use Rattle.rows.specs.Tree.{Forest, Forest.none, Tree, single, prefix, subtreeAt}
 use Rattle.rows.specs.Parse.{parse, treeOf}
 use Rattle.patterns.specs.Pattern.{leaf, plug, filled}
 use Rattle.patterns.specs.Answers.{MatchesAt}
-use Rattle.patterns.specs.Searches.{Checked, Searchable, Next}
+use Rattle.patterns.specs.Searchable.{Checked, Searchable}
 use Rattle.patterns.specs.Walk.{sameSymbol, Outcome.misses, Outcome.reaches, walk, unmarked}
 use Rattle.patterns.specs.declared.Leaf.{Leaf}
 use Rattle.patterns.specs.declared.Leaf.the-variants.{Plain, Blank, Variable}
 use Rattle.patterns.proofs.Matching.{PatternOf, checked-pattern, walk-matches, missed}
 use Rattle.patterns.proofs.Steps.{steps-same, steps-plain}
-use Rattle.patterns.proofs.Going.{Walking, walking-start, walking-to, walking-stops}
+use Rattle.searches.specs.Searches.{Next}
+use Rattle.searches.proofs.Going.{Walking, walking-start, walking-to, walking-stops}
 
 -- S or a variable alone matches everywhere
 plug-bare : (t : Tree) (s : ℕ) (cs : Forest) (l : Leaf) → (l ≡ Plain → ⊥)

@@ -21,17 +21,17 @@ use Rattle.rows.proofs.Scan.{drop-more}
 use Rattle.rows.proofs.Behind.{count-behind, enough-behind}
 use Rattle.rows.proofs.Entry.{entry-first, behind-some}
 use Rattle.tables.proofs.Given.{right-entry}
 use Rattle.patterns.specs.Pattern.{leaf}
-use Rattle.patterns.specs.Searches.{Checked, Searchable}
+use Rattle.patterns.specs.Searchable.{Checked, Searchable}
 use Rattle.patterns.specs.Walk.{sameSymbol, agreeing, Outcome, Outcome.misses, Outcome.reaches, meets, takes, steps, onward, walk, unmarked, MarksIn, stepped, marksAfter, Done}
 use Rattle.patterns.specs.declared.Leaf.{Leaf}
 use Rattle.patterns.specs.declared.Leaf.the-variants.{Plain, Blank, Variable}
 use Rattle.patterns.specs.declared.Stepped.{Stepped}
 use Rattle.patterns.specs.declared.Stepped.the-variants.{To, Miss}
 use Rattle.patterns.proofs.Leaves.{Kind, kind}
 use Rattle.patterns.proofs.Marks.{picks, marks-none, marks-wider, marks-set}
 use Rattle.patterns.proofs.Matching.{checked-ends, checked-pattern}
 use Rattle.patterns.proofs.Steps.{steps-same}
 
 -- behind the end of a subtree one tree fewer stands ahead
 fewer : (A w e q : List ℕ) → Checked A w e q → (j : ℕ) → j < length w → count (behind A w (getD e j 0)) + 1 ≡ count (behind A w j)

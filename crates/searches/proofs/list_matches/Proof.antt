@@ -1,12 +1,12 @@
--- `patterns::list_matches` meets its contract: where the buffer is as long as the row, or the matches were counted, there is room.
+-- `searches::list_matches` meets its contract: where the buffer is as long as the row, or the matches were counted, there is room.
 -- Assumes nothing.
 use mathlib.Core.Path.{refl}
 use mathlib.Core.Logic.{⊎-elim}
 use lib.ListN.{length}
-use Rattle.patterns.proofs.Listing.{room-counted, room-enough, lists-short}
+use Rattle.searches.proofs.Counting.{room-counted, room-enough, lists-short}
 use borrow.Author.Needs.{needs}
-use Rattle.patterns.proofs.list_matches.Statement.{statement}
-use Rattle.patterns.proofs.list_matches.Tie as tie
+use Rattle.searches.proofs.list_matches.Statement.{statement}
+use Rattle.searches.proofs.list_matches.Tie as tie
 
 count-matches-requires : tie.Need-count-matches-requires
 count-matches-requires c κs = search needs

@@ -1,4 +1,4 @@
--- `patterns::variables_at` meets its contract: the walk that is left from pattern place k decides the walk from p, and the
+-- `searches::variables_at` meets its contract: the walk that is left from pattern place k decides the walk from p, and the
 -- marks of a walk that comes through are those of the variables' first places.
 -- Assumes nothing.
 use Prim.Native.Nat.{ℕ, _-_, _+_, _<_}
@@ -7,13 +7,13 @@ use mathlib.Core.Logic.{⊎-elim}
 use mathlib.Core.List.{List}
 use native.Mathlib.Omega.{arith}
 use lib.ListN.{length}
 use Rattle.patterns.proofs.Marks.{marks-wider}
 use Rattle.patterns.proofs.Matching.{checked-ends}
-use Rattle.patterns.proofs.Going.{Walking, walking-start, walking-inside, walking-same, walking-next, walking-miss, walking-end}
-use Rattle.patterns.proofs.Facing.{binds-none, binds-some}
+use Rattle.searches.proofs.Going.{Walking, walking-start, walking-inside, walking-same, walking-next, walking-miss, walking-end}
+use Rattle.searches.proofs.Binding.{binds-none, binds-some}
 use borrow.Author.Needs.{needs}
-use Rattle.patterns.proofs.variables_at.Statement.{statement}
-use Rattle.patterns.proofs.variables_at.Tie as tie
+use Rattle.searches.proofs.variables_at.Statement.{statement}
+use Rattle.searches.proofs.variables_at.Tie as tie
 
 abbrev Inv-loop : tie.InvT-loop
 Inv-loop row table pattern p out marks₀ j₀ k₀ k-end marks j k = (k-end ≡ length pattern) × Walking row table pattern p marks j k

@@ -1,0 +1,5 @@
+pub mod Going
+pub mod Searching
+pub mod Counting
+pub mod Writing
+pub mod Binding
