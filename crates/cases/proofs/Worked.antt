@@ -12,9 +12,7 @@ use Rattle.patterns.specs.Walk.{sameFront, meets, takes, steps, walk, below}
 use Rattle.buffers.specs.Renewed.{renewed}
 use Rattle.edits.specs.Put.{put}
 use Rattle.edits.specs.Replace.{grown}
-use Rattle.checks.specs.Checks.{heldCheck, replaceCheck}
-use Rattle.checks.specs.Checks.{buildCheck}
-use Rattle.checks.specs.Checks.{searchCheck, output, findCheck, variablesCheck}
+use Rattle.checks.specs.Checks.{heldCheck, replaceCheck, buildCheck, searchCheck, output, findCheck, variablesCheck}
 use Rattle.cases.specs.Cases.{Cases}
 
 pub worked : Cases

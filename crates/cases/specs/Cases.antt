@@ -16,10 +16,8 @@ use Rattle.patterns.specs.Answers.{spans}
 use Rattle.patterns.specs.Walk.{comesThrough, listOf}
 use Rattle.buffers.specs.Renewed.{renewed}
 use Rattle.edits.specs.Put.{changed}
-use Rattle.checks.specs.Checks.{buildCheck}
-use Rattle.checks.specs.Checks.{findCheck, variablesCheck}
+use Rattle.checks.specs.Checks.{buildCheck, findCheck, variablesCheck, replaceCheck}
 use Rattle.sparrowhem.specs.Search.{found, bound}
-use Rattle.checks.specs.Checks.{replaceCheck}
 use Rattle.sparrowhem.specs.Edit.{answered}
 use Rattle.sparrowhem.specs.declared.edit.Replaced.{Replaced}
 use Rattle.sparrowhem.specs.declared.edit.Replaced.the-variants.{Done, Refused as ReplaceRefused}

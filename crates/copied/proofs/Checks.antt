@@ -19,8 +19,7 @@ use Rattle.rows.specs.declared.Refusal.the-variants.{AlphabetSize, Pattern, Rep
 use Rattle.tables.proofs.Given.{both-fine, sizes-fits}
 use Rattle.edits.specs.Put.{changed}
 use Rattle.edits.specs.Replace.{grown}
-use Rattle.checks.specs.Checks.{searchCheck}
-use Rattle.checks.specs.Checks.{heldCheck, replaceCheck}
+use Rattle.checks.specs.Checks.{searchCheck, heldCheck, replaceCheck}
 use Rattle.lent.specs.Answer.{refused, refusedBy}
 use Rattle.lent.proofs.Checks.{then-assoc}
 use Rattle.copied.specs.Copies.{Copyable}

@@ -24,10 +24,9 @@ use Rattle.buffers.proofs.Renewed.{length-renewed}
 use Rattle.edits.specs.Put.{changed}
 use Rattle.edits.specs.Replace.{grown}
 use Rattle.edits.proofs.Place.{grown-fine}
-use Rattle.checks.specs.Checks.{heldCheck, replaceCheck}
+use Rattle.checks.specs.Checks.{heldCheck, replaceCheck, searchCheck, output, findCheck}
 use Rattle.sparrowhem.specs.Edit.{answered, Replacement}
 use Rattle.sparrowhem.specs.declared.edit.Replaced.{Replaced}
-use Rattle.checks.specs.Checks.{searchCheck, output, findCheck}
 use Rattle.sparrowhem.specs.Search.{found, Finds}
 use Rattle.sparrowhem.specs.declared.search.Found.{Found}
 use Rattle.wire.specs.Wire.{numbers}

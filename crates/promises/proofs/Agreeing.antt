@@ -20,10 +20,8 @@ use Rattle.rows.specs.declared.Check.the-variants.{Fine, Refused}
 use Rattle.rows.proofs.Entry.{length-table}
 use Rattle.tables.proofs.Differ.{differs-same}
 use Rattle.buffers.proofs.Written.{length-written}
-use Rattle.checks.specs.Checks.{buildCheck}
+use Rattle.checks.specs.Checks.{buildCheck, rowCheck, plainCheck, searchCheck}
 use Rattle.sparrowhem.specs.Build.{Built}
-use Rattle.checks.specs.Checks.{rowCheck, plainCheck}
-use Rattle.checks.specs.Checks.{searchCheck}
 
 pub then-then : (a b c : Check) → _then_ (_then_ a b) c ≡ a then b then c
 then-then Fine b c = refl

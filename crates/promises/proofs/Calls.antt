@@ -20,10 +20,9 @@ use Rattle.rows.proofs.Buffers.{written-front}
 use Rattle.rows.proofs.Entry.{length-table}
 use Rattle.rows.proofs.Promises.{table-of-row}
 use Rattle.tables.proofs.Given.{row-fine}
-use Rattle.checks.specs.Checks.{buildCheck}
+use Rattle.checks.specs.Checks.{buildCheck, ofRecord, newerCheck, output, findCheck}
 use Rattle.promises.specs.Calls.{Build-settled, Build-refused, Build-accepts, Build-writes, Subtree-part, Subtree-empty, Subtree-place-settled, Find-settled, Find-refused, Find-lists, Find-short, Find-computed, Variables-settled, Variables-matched, Variables-unmatched, Variables-refused, Variables-computed, Newest-settled, Newer-part, Newer-settled, Newer-place-settled, Newer-lies, Newer-empty, Newer-refused, Newer-numbers}
 use Rattle.sparrowhem.specs.Parts.{subtreePart, subtreeAnswer, LiesAt, NewestSays, newestPart, NewestLies}
-use Rattle.checks.specs.Checks.{ofRecord, newerCheck}
 use Rattle.sparrowhem.specs.declared.parts.Newest.{Newest}
 use Rattle.sparrowhem.specs.declared.parts.Newest.the-variants.{Corrected, OnRecord, Nowhere, Refused as NewestRefused}
 use Rattle.sparrowhem.proofs.Preferring.{match-within, match-part, one-answer}
@@ -34,7 +33,6 @@ use Rattle.rows.specs.declared.Refusal.the-variants.{OutputShort}
 use Rattle.patterns.specs.Answers.{Listed, spans}
 use Rattle.patterns.specs.Walk.{listOf}
 use Rattle.patterns.proofs.Promises.{walk-lists, spans-long}
-use Rattle.checks.specs.Checks.{output, findCheck}
 use Rattle.sparrowhem.specs.Search.{found}
 use Rattle.sparrowhem.specs.declared.search.Found.the-variants.{Matches, Refused as FindRefused}
 use Rattle.sparrowhem.specs.declared.search.Bound.the-variants.{Matched, Unmatched, Refused as BindRefused}

@@ -40,15 +40,11 @@ use Rattle.buffers.specs.Renewed.{renewed}
 use Rattle.edits.specs.Put.{changed, extent}
 use Rattle.edits.specs.Replace.{grown}
 use Rattle.edits.proofs.Put.{below, put-below, size-single}
-use Rattle.checks.specs.Checks.{buildCheck}
+use Rattle.checks.specs.Checks.{buildCheck, searchCheck, output, findCheck, variablesCheck, heldCheck, replaceCheck, subtreeCheck, ofRecord, newerCheck, rowCheck, plainCheck}
 use Rattle.sparrowhem.specs.Build.{Built}
-use Rattle.checks.specs.Checks.{searchCheck, output, findCheck, variablesCheck}
 use Rattle.sparrowhem.specs.Search.{found, Finds, bound, Binds}
-use Rattle.checks.specs.Checks.{heldCheck, replaceCheck}
 use Rattle.sparrowhem.specs.Edit.{answered, Replacement}
-use Rattle.checks.specs.Checks.{subtreeCheck, ofRecord, newerCheck}
 use Rattle.sparrowhem.specs.Parts.{subtreePart, subtreeAnswer, placed, FirstMatch, NoMatch, NewestSays, newestPart, NewerPart}
-use Rattle.checks.specs.Checks.{rowCheck, plainCheck}
 use Rattle.sparrowhem.specs.Plain.{PlainSays}
 use Rattle.sparrowhem.specs.declared.search.Found.{Found}
 use Rattle.sparrowhem.specs.declared.search.Found.the-variants.{Matches, Refused as FindRefused}
@@ -61,10 +57,8 @@ use Rattle.sparrowhem.specs.declared.parts.Newest.{Newest}
 use Rattle.sparrowhem.specs.declared.parts.Newest.the-variants.{Corrected, OnRecord, Nowhere, Refused as NewestRefused}
 use Rattle.sparrowhem.specs.declared.matcher.Fits.{Fits}
 use Rattle.sparrowhem.specs.declared.matcher.Fits.the-variants.{Yes, No, Refused as PlainRefused}
-use Rattle.checks.proofs.Passing.{clash, position-fine}
-use Rattle.checks.proofs.Passing.{pattern-fine, search-checked}
+use Rattle.checks.proofs.Passing.{clash, position-fine, pattern-fine, search-checked, newer-checked}
 use Rattle.sparrowhem.proofs.Searching.{finds-matches}
-use Rattle.checks.proofs.Passing.{newer-checked}
 use Rattle.checks.proofs.Replacing.{held-fine, replacement-fine, replacement-whole, replace-held, replace-able}
 use Rattle.promises.specs.Runs.{edits, Holds}
 use Rattle.promises.specs.Edits.{movedSpan}

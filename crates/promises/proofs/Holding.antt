@@ -33,9 +33,8 @@ use Rattle.edits.specs.Put.{changed}
 use Rattle.edits.proofs.Put.{put-count, put-ranked, put-below, below}
 use Rattle.sparrowhem.specs.declared.edit.Replaced.{Replaced}
 use Rattle.sparrowhem.specs.declared.edit.Replaced.the-variants.{Done, Refused as Unreplaced}
-use Rattle.checks.specs.Checks.{buildCheck}
+use Rattle.checks.specs.Checks.{buildCheck, heldCheck, replaceCheck}
 use Rattle.sparrowhem.specs.Build.{Built}
-use Rattle.checks.specs.Checks.{heldCheck, replaceCheck}
 use Rattle.sparrowhem.specs.Edit.{answered, Replacement}
 use Rattle.promises.specs.Runs.{Holds}
 use Rattle.checks.proofs.Building.{build-fillable}

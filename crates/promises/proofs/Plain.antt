@@ -17,10 +17,9 @@ use Rattle.rows.specs.declared.Refusal.the-variants.{Position, OutputShort}
 use Rattle.rows.specs.declared.Check.{Check}
 use Rattle.rows.specs.declared.Check.the-variants.{Fine, Refused}
 use Rattle.tables.proofs.Given.{both-fine}
-use Rattle.checks.specs.Checks.{rowCheck, plainCheck}
+use Rattle.checks.specs.Checks.{rowCheck, plainCheck, searchCheck, output, findCheck}
 use Rattle.sparrowhem.specs.Plain.{PlainSays}
 use Rattle.promises.specs.Plain.{Plain-settled, Plain-yes, Both, Plain-finds, Shared, Plain-refuses}
-use Rattle.checks.specs.Checks.{searchCheck, output, findCheck}
 use Rattle.sparrowhem.specs.Search.{found, Finds}
 use Rattle.sparrowhem.specs.declared.matcher.Fits.{Fits}
 use Rattle.sparrowhem.specs.declared.matcher.Fits.the-variants.{Yes, No, Refused as PlainRefused}

@@ -19,8 +19,7 @@ use Rattle.sparrowhem.specs.Build.{Built}
 use Rattle.patterns.specs.Answers.{MatchesAt, Listed, spans}
 use Rattle.patterns.specs.Walk.{comesThrough, listOf}
 use Rattle.sparrowhem.specs.Parts.{subtreePart, subtreeAnswer, SubtreeLies, NewestSays, newestPart, NewerPart, NewerLies}
-use Rattle.checks.specs.Checks.{onRecord}
-use Rattle.checks.specs.Checks.{searchCheck, findCheck, variablesCheck}
+use Rattle.checks.specs.Checks.{onRecord, searchCheck, findCheck, variablesCheck}
 use Rattle.sparrowhem.specs.Search.{found, Finds, bound, Binds}
 use Rattle.sparrowhem.specs.declared.search.Found.{Found}
 use Rattle.sparrowhem.specs.declared.search.Found.the-variants.{Matches, Refused as FindRefused}

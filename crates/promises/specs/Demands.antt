@@ -34,11 +34,10 @@ use Rattle.patterns.specs.declared.Leaf.the-variants.{Variable}
 use Rattle.edits.specs.Put.{changed}
 use Rattle.edits.specs.Replace.{grown}
 use Rattle.sparrowhem.specs.Build.{Built}
-use Rattle.checks.specs.Checks.{output}
+use Rattle.checks.specs.Checks.{output, ofRecord}
 use Rattle.sparrowhem.specs.Search.{Finds, Binds}
 use Rattle.sparrowhem.specs.Edit.{Replacement}
 use Rattle.sparrowhem.specs.Parts.{subtreePart, subtreeAnswer, NewestSays, NewerPart}
-use Rattle.checks.specs.Checks.{ofRecord}
 use Rattle.sparrowhem.specs.Plain.{PlainSays}
 use Rattle.sparrowhem.specs.declared.search.Found.{Found}
 use Rattle.sparrowhem.specs.declared.search.Found.the-variants.{Matches, Refused as FindRefused}

@@ -2,7 +2,7 @@
 ghost use mathlib.Core.Path.{_≡_};
 ghost use mathlib.Core.Bool.{Bool};
 ghost use mathlib.Core.List.{List, []};
-ghost use Prim.Native.Nat.{ℕ, _+_, _-_, _*_, _≤_, _<_, min};
+ghost use Prim.Native.Nat.{ℕ, _+_, _-_, _≤_, _<_, min};
 ghost use lib.ListN.{length, getD};
 ghost use Rattle.rows.specs.Row.{verdict, ReadTo, Reads, SymbolsTo, isVariable, allowed, sized, reading};
 ghost use Rattle.rows.specs.Refusals.{aritiesFit, someLeaf, alphabet, sizes, symbols};

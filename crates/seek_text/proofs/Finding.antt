@@ -26,9 +26,8 @@ use Rattle.patterns.specs.Answers.{Listed}
 use Rattle.patterns.specs.Searchable.{Checked}
 use Rattle.searches.proofs.Counting.{listed-length}
 use Rattle.buffers.proofs.Written.{length-written}
-use Rattle.checks.specs.Checks.{buildCheck}
+use Rattle.checks.specs.Checks.{buildCheck, searchCheck, output, findCheck}
 use Rattle.sparrowhem.specs.Build.{Built}
-use Rattle.checks.specs.Checks.{searchCheck, output, findCheck}
 use Rattle.sparrowhem.specs.Search.{Finds}
 use Rattle.sparrowhem.specs.declared.search.Found.{Found}
 use Rattle.sparrowhem.specs.declared.search.Found.the-variants as found-as

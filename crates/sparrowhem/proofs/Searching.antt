@@ -13,7 +13,7 @@ use lib.Seq.{drop-at}
 use Rattle.rows.specs.Parse.{table}
 use Rattle.rows.specs.Row.{pick}
 use Rattle.rows.specs.Buffers.{written, after}
-use Rattle.rows.specs.Refusals.{_then_, pattern}
+use Rattle.rows.specs.Refusals.{_then_}
 use Rattle.rows.specs.declared.Refusal.{Refusal}
 use Rattle.rows.specs.declared.Refusal.the-variants.{OutputShort}
 use Rattle.rows.specs.declared.Check.{Check}

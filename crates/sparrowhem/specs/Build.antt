@@ -5,7 +5,6 @@ use mathlib.Core.List.{List}
 use lib.ListN.{length}
 use Rattle.rows.specs.Parse.{table as tableOf}
 use Rattle.rows.specs.Buffers.{written, after}
-use Rattle.rows.specs.Refusals.{alphabet}
 use Rattle.rows.specs.declared.Check.{Check}
 use Rattle.checks.specs.Checks.{buildCheck}
 

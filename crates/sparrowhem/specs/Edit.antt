@@ -2,11 +2,10 @@
 use Prim.Native.Nat.{ℕ}
 use mathlib.Core.Path.{_≡_}
 use mathlib.Core.List.{List}
-use lib.ListN.{length, take}
+use lib.ListN.{take}
 use lib.IntN.{pos, _-ℤ_}
 use Rattle.rows.specs.Tree.{size, prefix, ends}
 use Rattle.rows.specs.Buffers.{after}
-use Rattle.rows.specs.Refusals.{replacement, position}
 use Rattle.rows.specs.declared.Check.{Check}
 use Rattle.rows.specs.declared.Check.the-variants.{Fine, Refused}
 use Rattle.buffers.specs.Renewed.{renewed}

@@ -6,7 +6,6 @@ use lib.ListN.{length, getD}
 use Rattle.rows.specs.Tree.{single, prefix, subtreeAt}
 use Rattle.rows.specs.Parse.{parse, table}
 use Rattle.rows.specs.Buffers.{after}
-use Rattle.rows.specs.Refusals.{position}
 use Rattle.rows.specs.declared.Check.{Check}
 use Rattle.rows.specs.declared.Check.the-variants.{Fine, Refused}
 use Rattle.patterns.specs.Answers.{MatchesAt}

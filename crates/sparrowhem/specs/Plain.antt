@@ -2,7 +2,6 @@
 use Prim.Native.Nat.{ℕ}
 use mathlib.Core.Path.{_≡_}
 use mathlib.Core.List.{List}
-use Rattle.rows.specs.Refusals.{pattern, position}
 use Rattle.rows.specs.declared.Check.the-variants.{Fine, Refused}
 use Rattle.patterns.specs.Answers.{MatchesAt}
 use Rattle.checks.specs.Checks.{plainCheck}

@@ -7,7 +7,6 @@ use mathlib.Core.Logic.{_↔_}
 use lib.ListN.{length}
 use Rattle.rows.specs.Row.{pick}
 use Rattle.rows.specs.Buffers.{written, after}
-use Rattle.rows.specs.Refusals.{pattern, position}
 use Rattle.rows.specs.declared.Check.{Check}
 use Rattle.rows.specs.declared.Check.the-variants.{Fine, Refused}
 use Rattle.patterns.specs.Answers.{MatchesAt, Listed, spans}

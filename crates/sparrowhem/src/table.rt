@@ -1,5 +1,4 @@
 // The table of a row.
-ghost use mathlib.Core.Path.{_≡_};
 ghost use Rattle.sparrowhem.specs.Build.{Built};
 use rows::Check;
 

@@ -1,6 +1,5 @@
 -- `decimal::number_at` meets its contract. Only 0 itself begins with a 0; behind any other digit more may follow.
 -- Assumes nothing.
--- a digit stands at the cursor
 use Prim.Native.Nat.{_+_, _≤_, _<_}
 use mathlib.Core.Path.{_≡_, refl, sym, _∙_}
 use mathlib.Core.Bool.{true}
@@ -13,6 +12,7 @@ use borrow.Author.Needs.{needs}
 use Rattle.decimal.proofs.number_at.Statement.{statement}
 use Rattle.decimal.proofs.number_at.Tie as tie
 
+-- a digit stands at the cursor
 digit : (c : tie.Then1) → isDigit (getD (c .before .before .before .args .text .now) (c .before .before .before .args .from .at) 0) ≡ true
 digit c = sym (c .before .digit-at .ensures) ∙ c .if1 .taken
 

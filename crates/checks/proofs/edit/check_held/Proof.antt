@@ -1,6 +1,5 @@
 -- `checks::edit::check_held` meets its contract. The checks on the way decide each case.
 -- Assumes nothing.
--- the sizes, told of the shorter buffer
 use Prim.Native.Nat.{min}
 use mathlib.Core.Path.{_≡_, sym, ap, _∙_}
 use lib.ListN.{length}
@@ -14,6 +13,7 @@ use borrow.Author.Needs.{needs}
 use Rattle.checks.proofs.edit.check_held.Statement.{statement}
 use Rattle.checks.proofs.edit.check_held.Tie as tie
 
+-- the sizes, told of the shorter buffer
 fine : (c : tie.After-enum-told2)
     → sizes (c .before .before .before .before .before .before .before .before .before .before .args .n) (min (length (now (c .before .before .before .before .before .before .before .before .before .before .args .row))) (length (now (c .before .before .before .before .before .before .before .before .before .before .args .table)))) ≡ Fine
 fine c = ap (sizes (c .before .before .before .before .before .before .before .before .before .before .args .n)) (sym (c .before .before .before .shorter .ensures)) ∙ sym (c .before .before .check-sizes .ensures) ∙ c .enum-told2 .given .1

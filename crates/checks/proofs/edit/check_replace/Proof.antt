@@ -1,6 +1,5 @@
 -- `checks::edit::check_replace` meets its contract. The checks on the way decide each case.
 -- Assumes nothing.
--- what the row, its table and the replacement are, once their checks are through
 use Prim.Native.Nat.{ℕ, _+_, _-_, min}
 use mathlib.Core.Path.{_≡_, sym, ap, _∙_}
 use lib.ListN.{length, getD}
@@ -14,6 +13,7 @@ use borrow.Author.Needs.{needs}
 use Rattle.checks.proofs.edit.check_replace.Statement.{statement}
 use Rattle.checks.proofs.edit.check_replace.Tie as tie
 
+-- what the row, its table and the replacement are, once their checks are through
 held : (c : tie.After-enum-told2) → Held (now (c .before .before .before .before .before .before .before .before .before .before .args .arities)) (now (c .before .before .before .before .before .before .before .before .before .before .args .row)) (now (c .before .before .before .before .before .before .before .before .before .before .args .table)) (c .before .before .before .before .before .before .before .before .before .before .args .n)
 held c =
     let a = c .before .before .before .before .before .before .before .before .before .before .args in

@@ -1,6 +1,5 @@
 -- `seek_text::input::read_input` meets its contract. The lines are read one after the other, each behind the one before.
 -- Assumes nothing.
--- the lines that were read
 use Rattle.decimal.specs.Lines.{LineRead, Room}
 use Rattle.decimal.proofs.Lining.{room-next}
 use Rattle.seek_text.specs.Input.{Refuses.long}
@@ -9,6 +8,7 @@ use borrow.Author.Needs.{needs}
 use Rattle.seek_text.proofs.input.read_input.Statement.{statement}
 use Rattle.seek_text.proofs.input.read_input.Tie as tie
 
+-- the lines that were read
 line₁ : (c : tie.After-known-told2)
     → LineRead (c .before .before .before .before .before .before .before .before .before .before .args .input .now) top (c .before .before .before .before .before .before .before .before .before .before .args .numbers .now) 0 (c .before .arities .given .0 .0) (c .before .arities .given .0 .1 .0) (c .before .before .before .before .before .read-line .last .1 .1 .0)
 line₁ c = rw (c .before .arities .given .1) at (c .before .before .before .before .before .read-line .ensures)

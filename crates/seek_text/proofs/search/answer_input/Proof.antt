@@ -1,6 +1,5 @@
 -- `seek_text::search::answer_input` meets its contract: the lists are parts of the buffer, and the search is theirs.
 -- Assumes nothing.
--- the input says three lists
 use Rattle.seek_text.specs.Input.{ListsRead}
 use Rattle.seek_text.specs.Search.{Prints.input-refused}
 use Rattle.seek_text.proofs.Answering.{places, answer-refused, answer-found}
@@ -8,6 +7,7 @@ use borrow.Author.Needs.{needs}
 use Rattle.seek_text.proofs.search.answer_input.Statement.{statement}
 use Rattle.seek_text.proofs.search.answer_input.Tie as tie
 
+-- the input says three lists
 lists : (c : tie.After-known-told2)
     → ListsRead (c .before .before .before .before .before .before .before .before .before .before .before .args .input .now) (c .before .before .before .before .before .before .before .before .before .before .before .args .numbers .now) (c .before .a .given .0 .0) (c .before .a .given .0 .1 .0) (c .before .a .given .0 .1 .1 .0) (c .before .before .before .before .before .read-input .last .1 .0)
 lists c = rw (c .before .a .given .1) at (c .before .before .before .before .before .read-input .ensures)
