@@ -5,14 +5,13 @@ use Rattle.rows.specs.Tree.{size, prefix, ends, subtrees}
 use Rattle.rows.specs.Parse.{first, rest, over, parse, table}
 use Rattle.rows.specs.Row.{verdict, sized, reading}
 use Rattle.rows.specs.Buffers.{written}
-use Rattle.rows.specs.Refusals.{alphabetSize, aritiesFit, someLeaf, alphabet, sizes, symbols, differs, fresh, kept, given, pattern, replacement, position}
+use Rattle.rows.specs.Refusals.{alphabetSize, aritiesFit, someLeaf, alphabet, sizes, symbols, differs, fresh, kept, given, pattern, replacement, position, grown, output}
 use Rattle.patterns.specs.Pattern.{leaf}
 use Rattle.patterns.specs.Answers.{faced, span, spansBelow}
 use Rattle.patterns.specs.Walk.{sameFront, meets, takes, steps, walk, below}
 use Rattle.buffers.specs.Renewed.{renewed}
 use Rattle.edits.specs.Put.{put}
-use Rattle.edits.specs.Replace.{grown}
-use Rattle.checks.specs.Checks.{heldCheck, replaceCheck, buildCheck, searchCheck, output, findCheck, variablesCheck}
+use Rattle.checks.specs.Checks.{heldCheck, replaceCheck, buildCheck, searchCheck, findCheck, variablesCheck}
 use Rattle.cases.specs.Cases.{Cases}
 
 pub worked : Cases

@@ -9,14 +9,14 @@ use borrow.Author.Tests.{ltb-true, ltb-false}
 use lib.Dec.{ltb}
 use lib.ListN.{length}
 use Rattle.rows.specs.Row.{pick, reading, sized, verdict, allowed, Accepted}
-use Rattle.rows.specs.Refusals.{given, position, _then_, alphabetSize, aritiesFit, someLeaf, alphabet, kept, asPattern, pattern, asRow}
+use Rattle.rows.specs.Refusals.{given, position, _then_, alphabetSize, aritiesFit, someLeaf, alphabet, kept, asPattern, pattern, asRow, output}
 use Rattle.rows.specs.declared.Refusal.{Refusal}
 use Rattle.rows.specs.declared.Refusal.the-variants.{Position, AlphabetSize, OutputShort}
 use Rattle.rows.specs.declared.Check.{Check}
 use Rattle.rows.specs.declared.Check.the-variants.{Fine, Refused}
 use Rattle.tables.specs.Given.{Right}
 use Rattle.tables.proofs.Given.{both-fine, given-right, row-fine}
-use Rattle.checks.specs.Checks.{subtreeCheck, searchCheck, output, variablesCheck, ofRecord, newerCheck, rowCheck, plainCheck}
+use Rattle.checks.specs.Checks.{subtreeCheck, searchCheck, variablesCheck, ofRecord, newerCheck, rowCheck, plainCheck}
 use Rattle.rows.specs.declared.Leaves.the-variants.{Blanks, Symbols}
 use Rattle.rows.specs.declared.Verdict.{Verdict}
 use Rattle.rows.specs.declared.Verdict.the-variants.{Whole, Faulty}

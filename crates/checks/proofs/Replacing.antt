@@ -9,7 +9,7 @@ use lib.ListN.{length, take, getD}
 use lib.Seq.{length-take-le}
 use Rattle.rows.specs.Tree.{size}
 use Rattle.rows.specs.Row.{Accepted, sized, verdict, allowed, reading, orElse}
-use Rattle.rows.specs.Refusals.{_then_, asReplacement, alphabet, sizes, symbols, fresh, replacement, position}
+use Rattle.rows.specs.Refusals.{_then_, asReplacement, alphabet, sizes, symbols, fresh, replacement, position, grown}
 use Rattle.rows.specs.declared.Leaves.the-variants.{Symbols}
 use Rattle.rows.specs.declared.Verdict.{Verdict}
 use Rattle.rows.specs.declared.Verdict.the-variants.{Whole, Faulty}
@@ -19,7 +19,7 @@ use Rattle.rows.proofs.Scan.{sized-fits}
 use Rattle.tables.specs.Given.{Sized, Right}
 use Rattle.tables.proofs.Given.{both-fine, sizes-fits, check-right, right-bounds}
 use Rattle.edits.specs.Put.{changed}
-use Rattle.edits.specs.Replace.{grown, Replaceable}
+use Rattle.edits.specs.Replace.{Replaceable}
 use Rattle.edits.proofs.Put.{below}
 use Rattle.edits.proofs.Place.{position-past, position-in, grown-fits, grown-fine}
 use Rattle.edits.proofs.Replace.{new-length}

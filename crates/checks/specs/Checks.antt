@@ -1,18 +1,16 @@
 -- What each public call refuses, in document 01's order: `then` takes the first of two checks that refuses.
 use Prim.Native.Nat.{ℕ, min}
 use mathlib.Core.List.{List}
-use lib.Dec.{ltb}
 use lib.ListN.{length, take}
 use Rattle.rows.specs.Tree.{size}
-use Rattle.rows.specs.Row.{pick, reading}
-use Rattle.rows.specs.Refusals.{_then_, asRow, alphabet, sizes, symbols, fresh, kept, given, pattern, replacement, position}
+use Rattle.rows.specs.Row.{reading}
+use Rattle.rows.specs.Refusals.{_then_, asRow, alphabet, sizes, symbols, fresh, kept, given, pattern, replacement, position, grown, output}
 use Rattle.rows.specs.declared.Leaves.the-variants.{Symbols}
 use Rattle.rows.specs.declared.Refusal.{Refusal}
 use Rattle.rows.specs.declared.Refusal.the-variants.{AlphabetSize, ArityOver, NoLeaf, Row, BufferShort, Stale, OnRecord, OnRecordShort, OnRecordStale, Pattern, Replacement, Position, TooLong, OutputShort, Line, InputLong}
 use Rattle.rows.specs.declared.Check.{Check}
 use Rattle.rows.specs.declared.Check.the-variants.{Fine, Refused}
 use Rattle.edits.specs.Put.{changed}
-use Rattle.edits.specs.Replace.{grown}
 
 -- BUILD. Refusals 1 to 9, for a table of m places.
 unfoldable pub buildCheck : List ℕ → List ℕ → ℕ → Check
@@ -21,10 +19,6 @@ buildCheck A w m = alphabet A then sizes (length w) m then symbols A w
 -- PATTERNS OVER A ROW WITH ITS TABLE. Refusals 1 to 15.
 unfoldable pub searchCheck : List ℕ → List ℕ → List ℕ → List ℕ → Check
 searchCheck A w t q = given A w t then pattern A q
-
--- 19: n numbers have room in an output of m places
-unfoldable pub output : ℕ → ℕ → Check
-output n m = pick (ltb m n) (Refused (OutputShort n)) Fine
 
 -- FIND. Refusals 1 to 15, then 19 where the n matches have no room in m places.
 unfoldable pub findCheck : List ℕ → List ℕ → List ℕ → List ℕ → ℕ → ℕ → Check

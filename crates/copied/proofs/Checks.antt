@@ -10,7 +10,7 @@ use lib.Dec.{ltb}
 use lib.ListN.{length, take}
 use Rattle.rows.specs.Row.{pick, sized, reading}
 use Rattle.rows.specs.Tree.{size}
-use Rattle.rows.specs.Refusals.{_then_, alphabetSize, aritiesFit, someLeaf, alphabet, sizes, symbols, fresh, kept, given, pattern, replacement, position}
+use Rattle.rows.specs.Refusals.{_then_, alphabetSize, aritiesFit, someLeaf, alphabet, sizes, symbols, fresh, kept, given, pattern, replacement, position, grown}
 use Rattle.rows.specs.declared.Check.{Check}
 use Rattle.rows.specs.declared.Check.the-variants.{Fine, Refused}
 use Rattle.rows.specs.declared.Fault.the-variants.{Long}
@@ -18,7 +18,6 @@ use Rattle.rows.specs.declared.Refusal.{Refusal}
 use Rattle.rows.specs.declared.Refusal.the-variants.{AlphabetSize, Pattern, Replacement}
 use Rattle.tables.proofs.Given.{both-fine, sizes-fits}
 use Rattle.edits.specs.Put.{changed}
-use Rattle.edits.specs.Replace.{grown}
 use Rattle.checks.specs.Checks.{searchCheck, heldCheck, replaceCheck}
 use Rattle.lent.specs.Answer.{refused, refusedBy}
 use Rattle.lent.proofs.Checks.{then-assoc}

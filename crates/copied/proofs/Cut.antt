@@ -11,7 +11,7 @@ use lib.Seq.{take-take, drop-append-le, length-take-le}
 use Rattle.rows.specs.Row.{pick}
 use Rattle.rows.specs.Parse.{table}
 use Rattle.rows.specs.Buffers.{written, after}
-use Rattle.rows.specs.Refusals.{_then_, alphabet, sizes, symbols, differs, fresh, kept, given, pattern, replacement, position}
+use Rattle.rows.specs.Refusals.{_then_, alphabet, sizes, symbols, differs, fresh, kept, given, pattern, replacement, position, grown, output}
 use Rattle.rows.specs.Tree.{size, prefix, ends}
 use Rattle.rows.specs.declared.Check.{Check}
 use Rattle.rows.specs.declared.Check.the-variants.{Fine, Refused}
@@ -22,9 +22,8 @@ use Rattle.tables.proofs.Given.{both-fine}
 use Rattle.buffers.specs.Renewed.{renewed}
 use Rattle.buffers.proofs.Renewed.{length-renewed}
 use Rattle.edits.specs.Put.{changed}
-use Rattle.edits.specs.Replace.{grown}
 use Rattle.edits.proofs.Place.{grown-fine}
-use Rattle.checks.specs.Checks.{heldCheck, replaceCheck, searchCheck, output, findCheck}
+use Rattle.checks.specs.Checks.{heldCheck, replaceCheck, searchCheck, findCheck}
 use Rattle.sparrowhem.specs.Edit.{answered, Replacement}
 use Rattle.sparrowhem.specs.declared.edit.Replaced.{Replaced}
 use Rattle.sparrowhem.specs.Search.{found, Finds}

@@ -9,7 +9,7 @@ use lib.IntN.{ℤ}
 use lib.ListN.{length, take}
 use lib.Seq.{take-at}
 use Rattle.rows.specs.Buffers.{written, after}
-use Rattle.rows.specs.Refusals.{_then_, alphabet, sizes, symbols, fresh, position}
+use Rattle.rows.specs.Refusals.{_then_, alphabet, sizes, symbols, fresh, position, grown}
 use Rattle.rows.specs.Tree.{size, prefix, ends}
 use Rattle.rows.specs.declared.Check.{Check}
 use Rattle.rows.specs.declared.Check.the-variants.{Fine, Refused}
@@ -18,7 +18,6 @@ use Rattle.rows.specs.declared.Refusal.{Refusal}
 use Rattle.rows.specs.declared.Refusal.the-variants.{Replacement as InReplacement}
 use Rattle.buffers.specs.Renewed.{renewed}
 use Rattle.edits.specs.Put.{changed}
-use Rattle.edits.specs.Replace.{grown}
 use Rattle.checks.specs.Checks.{replaceCheck}
 use Rattle.sparrowhem.specs.Edit.{answered as outcomeOf, Replacement}
 use Rattle.sparrowhem.specs.declared.edit.Replaced.{Replaced}

@@ -13,7 +13,7 @@ use lib.Seq.{take-at}
 use mathlib.Core.Bool.{Bool, true, false}
 use Rattle.rows.specs.Row.{pick}
 use Rattle.rows.specs.Buffers.{written, after}
-use Rattle.rows.specs.Refusals.{_then_, alphabet, sizes, symbols, fresh}
+use Rattle.rows.specs.Refusals.{_then_, alphabet, sizes, symbols, fresh, output}
 use Rattle.rows.specs.declared.Check.{Check}
 use Rattle.rows.specs.declared.Check.the-variants.{Fine, Refused}
 use Rattle.rows.specs.declared.Refusal.{Refusal}
@@ -22,7 +22,7 @@ use Rattle.rows.specs.declared.Fault.the-variants.{Long}
 use Rattle.searches.proofs.Counting.{room-enough}
 use Rattle.wire.specs.Wire.{numbers, bytesOf, Bytes}
 use Rattle.wire.proofs.Numbers.{write-read, written-again}
-use Rattle.checks.specs.Checks.{searchCheck, output, findCheck}
+use Rattle.checks.specs.Checks.{searchCheck, findCheck}
 use Rattle.sparrowhem.specs.Search.{found, Finds}
 use Rattle.sparrowhem.specs.declared.search.Found.{Found}
 use Rattle.sparrowhem.specs.declared.search.Found.the-variants.{Matches, Refused as Unfound}

@@ -7,11 +7,10 @@ use native.Mathlib.Omega.{arith}
 use lib.Dec.{ltb}
 use borrow.Author.Tests.{lt-ltb, le-ltb, ltb-false}
 use Rattle.rows.specs.Row.{pick}
-use Rattle.rows.specs.Refusals.{_then_, position}
+use Rattle.rows.specs.Refusals.{_then_, position, grown}
 use Rattle.rows.specs.declared.Refusal.the-variants.{Position, TooLong}
 use Rattle.rows.specs.declared.Check.{Check}
 use Rattle.rows.specs.declared.Check.the-variants.{Fine, Refused}
-use Rattle.edits.specs.Replace.{grown}
 
 pub position-past : (n p : ℕ) (c : Check) → n ≤ p → position n p then c ≡ Refused (Position p)
 unfolding position

@@ -1,21 +1,13 @@
 -- What a replacement asks for, and what it leaves.
-use Prim.Native.Nat.{ℕ, _≤_, _<_, min}
+use Prim.Native.Nat.{ℕ, _≤_, _<_}
 use mathlib.Core.Path.{_≡_}
 use mathlib.Core.List.{List}
-use lib.Dec.{ltb}
 use lib.ListN.{length, take}
 use Rattle.rows.specs.Tree.{size, prefix, ends}
-use Rattle.rows.specs.Row.{pick, Accepted}
-use Rattle.rows.specs.declared.Refusal.the-variants.{TooLong}
-use Rattle.rows.specs.declared.Check.{Check}
-use Rattle.rows.specs.declared.Check.the-variants.{Fine, Refused}
+use Rattle.rows.specs.Row.{Accepted}
 use Rattle.tables.specs.Given.{Right}
 use Rattle.buffers.specs.Renewed.{renewed}
 use Rattle.edits.specs.Put.{changed}
-
--- 18: the new row of m symbols is at most 16,384 long, and the shortest of its buffers, of `room` places, has room for it
-unfoldable pub grown : ℕ → ℕ → Check
-grown m room = pick (ltb (min 16384 room) m) (Refused (TooLong m)) Fine
 
 -- an accepted row, the first n places of its buffer, with its table; an accepted replacement; a position of the row; and room
 -- for the new row: what the refusals leave

@@ -7,13 +7,13 @@ ghost use lib.IntN.{pos, _-ℤ_};
 ghost use Rattle.rows.specs.Tree.{ends};
 ghost use Rattle.rows.specs.Parse.{parse};
 ghost use Rattle.rows.specs.Row.{Accepted};
-ghost use Rattle.rows.specs.Refusals.{_then_, position};
+ghost use Rattle.rows.specs.Refusals.{_then_, position, grown};
 ghost use Rattle.rows.specs.Buffers.{written};
 ghost use Rattle.buffers.specs.Shift.{shifted};
 ghost use Rattle.buffers.specs.Renewed.{renewed, spliced};
 ghost use Rattle.edits.specs.Moved.{moved, splicedEnds};
 ghost use Rattle.edits.specs.Given.{Room, Movable};
-ghost use Rattle.edits.specs.Replace.{grown, Replaceable, Replacing};
+ghost use Rattle.edits.specs.Replace.{Replaceable, Replacing};
 use rows::Check;
 use rows::Refusal;
 

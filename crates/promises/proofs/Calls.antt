@@ -11,7 +11,7 @@ use Rattle.rows.specs.Tree.{IsRow}
 use Rattle.rows.specs.Parse.{table}
 use Rattle.rows.specs.Row.{symbol, verdict, allowed}
 use Rattle.rows.specs.Buffers.{written, after}
-use Rattle.rows.specs.Refusals.{_then_, asRow, sizes, symbols, kept, pattern}
+use Rattle.rows.specs.Refusals.{_then_, asRow, sizes, symbols, kept, pattern, output}
 use Rattle.rows.specs.declared.Leaves.the-variants.{Symbols}
 use Rattle.rows.specs.declared.Check.{Check}
 use Rattle.rows.specs.declared.Check.the-variants.{Fine}
@@ -20,7 +20,7 @@ use Rattle.rows.proofs.Buffers.{written-front}
 use Rattle.rows.proofs.Entry.{length-table}
 use Rattle.rows.proofs.Promises.{table-of-row}
 use Rattle.tables.proofs.Given.{row-fine}
-use Rattle.checks.specs.Checks.{buildCheck, ofRecord, newerCheck, output, findCheck}
+use Rattle.checks.specs.Checks.{buildCheck, ofRecord, newerCheck, findCheck}
 use Rattle.promises.specs.Calls.{Build-settled, Build-refused, Build-accepts, Build-writes, Subtree-part, Subtree-empty, Subtree-place-settled, Find-settled, Find-refused, Find-lists, Find-short, Find-computed, Variables-settled, Variables-matched, Variables-unmatched, Variables-refused, Variables-computed, Newest-settled, Newer-part, Newer-settled, Newer-place-settled, Newer-lies, Newer-empty, Newer-refused, Newer-numbers}
 use Rattle.sparrowhem.specs.Parts.{subtreePart, subtreeAnswer, LiesAt, NewestSays, newestPart, NewestLies}
 use Rattle.sparrowhem.specs.declared.parts.Newest.{Newest}

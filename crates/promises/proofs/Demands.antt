@@ -16,7 +16,7 @@ use Rattle.rows.specs.Tree.{Forest, Tree, single, size, prefix, ends, subtreeAt
 use Rattle.rows.specs.Parse.{parse, treeOf, table}
 use Rattle.rows.specs.Row.{pick, symbol, verdict, allowed, sized, reading}
 use Rattle.rows.specs.Buffers.{written, after}
-use Rattle.rows.specs.Refusals.{_then_, alphabet, asRow, asPattern, sizes, symbols, differs, fresh, kept, given, pattern, replacement, position}
+use Rattle.rows.specs.Refusals.{_then_, alphabet, asRow, asPattern, sizes, symbols, differs, fresh, kept, given, pattern, replacement, position, grown, output}
 use Rattle.rows.specs.declared.Leaves.{Leaves}
 use Rattle.rows.specs.declared.Leaves.the-variants.{Symbols, Blanks}
 use Rattle.rows.specs.declared.Refusal.{Refusal}
@@ -38,9 +38,8 @@ use Rattle.patterns.proofs.Steps.{variable-small}
 use Rattle.patterns.proofs.Promises.{walk-right, walk-lists, span-present, span-first, span-absent}
 use Rattle.buffers.specs.Renewed.{renewed}
 use Rattle.edits.specs.Put.{changed, extent}
-use Rattle.edits.specs.Replace.{grown}
 use Rattle.edits.proofs.Put.{below, put-below, size-single}
-use Rattle.checks.specs.Checks.{buildCheck, searchCheck, output, findCheck, variablesCheck, heldCheck, replaceCheck, subtreeCheck, ofRecord, newerCheck, rowCheck, plainCheck}
+use Rattle.checks.specs.Checks.{buildCheck, searchCheck, findCheck, variablesCheck, heldCheck, replaceCheck, subtreeCheck, ofRecord, newerCheck, rowCheck, plainCheck}
 use Rattle.sparrowhem.specs.Build.{Built}
 use Rattle.sparrowhem.specs.Search.{found, Finds, bound, Binds}
 use Rattle.sparrowhem.specs.Edit.{answered, Replacement}

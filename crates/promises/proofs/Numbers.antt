@@ -13,7 +13,7 @@ use lib.ListN.{length, getD, take}
 use lib.Seq.{length-take-le, getD-take, take-all}
 use Rattle.rows.specs.Tree.{IsRow}
 use Rattle.rows.specs.Row.{pick, sized, verdict}
-use Rattle.rows.specs.Refusals.{_then_, asRow, alphabetSize, aritiesFit, someLeaf, sizes, position}
+use Rattle.rows.specs.Refusals.{_then_, asRow, alphabetSize, aritiesFit, someLeaf, sizes, position, grown, output}
 use Rattle.rows.specs.declared.Fault.the-variants.{Empty, Long, Stray, Early, Extra}
 use Rattle.rows.specs.declared.Verdict.{Verdict}
 use Rattle.rows.specs.declared.Verdict.the-variants.{Whole, Faulty}
@@ -24,10 +24,8 @@ use Rattle.rows.specs.declared.Check.the-variants.{Fine, Refused}
 use Rattle.rows.proofs.Accept.{verdict-step}
 use Rattle.rows.proofs.Scan.{sized-fits}
 use Rattle.rows.proofs.Promises.{reads-rows, checksum-rule}
-use Rattle.edits.specs.Replace.{grown}
 use Rattle.edits.proofs.Place.{grown-over, grown-fits}
 use Rattle.edits.proofs.Put.{below}
-use Rattle.checks.specs.Checks.{output}
 use Rattle.checks.proofs.Passing.{clash}
 use Rattle.promises.specs.Numbers.{FirstOver, Unfinished, Numbers}
 use Rattle.rows.proofs.Entry.{same-end}

@@ -11,13 +11,13 @@ use lib.Dec.{ltb}
 use lib.ListN.{length, take}
 use Rattle.rows.specs.Row.{pick}
 use Rattle.numbers.specs.Numbers.{number}
-use Rattle.rows.specs.Refusals.{_then_, pattern, position}
+use Rattle.rows.specs.Refusals.{_then_, pattern, position, output}
 use Rattle.rows.specs.declared.Refusal.{Refusal}
 use Rattle.rows.specs.declared.Refusal.the-variants.{Position, OutputShort}
 use Rattle.rows.specs.declared.Check.{Check}
 use Rattle.rows.specs.declared.Check.the-variants.{Fine, Refused}
 use Rattle.tables.proofs.Given.{both-fine}
-use Rattle.checks.specs.Checks.{rowCheck, plainCheck, searchCheck, output, findCheck}
+use Rattle.checks.specs.Checks.{rowCheck, plainCheck, searchCheck, findCheck}
 use Rattle.sparrowhem.specs.Plain.{PlainSays}
 use Rattle.promises.specs.Plain.{Plain-settled, Plain-yes, Both, Plain-finds, Shared, Plain-refuses}
 use Rattle.sparrowhem.specs.Search.{found, Finds}

@@ -22,7 +22,7 @@ use Rattle.rows.specs.Tree.{Forest, IsRow, single, size, prefix, subtreeAt}
 use Rattle.rows.specs.Parse.{table}
 use Rattle.rows.specs.Row.{pick, symbol, allowed, sized}
 use Rattle.numbers.specs.Numbers.{number, place}
-use Rattle.rows.specs.Refusals.{_then_, alphabet, asRow, sizes, symbols, fresh, given, pattern, replacement, position}
+use Rattle.rows.specs.Refusals.{_then_, alphabet, asRow, sizes, symbols, fresh, given, pattern, replacement, position, grown, output}
 use Rattle.rows.specs.declared.Leaves.the-variants.{Blanks}
 use Rattle.rows.specs.declared.Refusal.{Refusal}
 use Rattle.rows.specs.declared.Refusal.the-variants.{Stale, OnRecordStale}
@@ -32,9 +32,8 @@ use Rattle.patterns.specs.Pattern.{leaf, Choice, filled}
 use Rattle.patterns.specs.Answers.{facing}
 use Rattle.patterns.specs.declared.Leaf.the-variants.{Variable}
 use Rattle.edits.specs.Put.{changed}
-use Rattle.edits.specs.Replace.{grown}
 use Rattle.sparrowhem.specs.Build.{Built}
-use Rattle.checks.specs.Checks.{output, ofRecord}
+use Rattle.checks.specs.Checks.{ofRecord}
 use Rattle.sparrowhem.specs.Search.{Finds, Binds}
 use Rattle.sparrowhem.specs.Edit.{Replacement}
 use Rattle.sparrowhem.specs.Parts.{subtreePart, subtreeAnswer, NewestSays, NewerPart}

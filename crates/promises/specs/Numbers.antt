@@ -9,14 +9,12 @@ use lib.Dec.{T}
 use lib.ListN.{length, getD, take}
 use Rattle.rows.specs.Tree.{IsRow}
 use Rattle.rows.specs.Row.{sized, verdict}
-use Rattle.rows.specs.Refusals.{alphabetSize, aritiesFit, someLeaf, sizes, position}
+use Rattle.rows.specs.Refusals.{alphabetSize, aritiesFit, someLeaf, sizes, position, grown, output}
 use Rattle.rows.specs.declared.Fault.the-variants.{Empty, Long, Stray, Early, Extra}
 use Rattle.rows.specs.declared.Verdict.the-variants.{Faulty}
 use Rattle.rows.specs.declared.Refusal.{Refusal}
 use Rattle.rows.specs.declared.Refusal.the-variants.{AlphabetSize, ArityOver, NoLeaf, BufferShort, Position, TooLong, OutputShort}
 use Rattle.rows.specs.declared.Check.the-variants.{Refused}
-use Rattle.edits.specs.Replace.{grown}
-use Rattle.checks.specs.Checks.{output}
 
 -- s is the first symbol with an arity over 15
 pub record FirstOver (A : List ℕ) (s : ℕ) : Type 0 where

@@ -1,5 +1,5 @@
--- Refusals: when each is given, and in which order.
-use Prim.Native.Nat.{ℕ, _+_}
+-- Refusals: when each is given; and `then`, by which an order of them is written.
+use Prim.Native.Nat.{ℕ, _+_, min}
 use mathlib.Core.List.{List, [], _∷_}
 use lib.Dec.{ltb, eqb}
 use lib.ListN.{length}
@@ -8,7 +8,7 @@ use Rattle.rows.specs.Parse.{table}
 use Rattle.rows.specs.declared.Verdict.{Verdict}
 use Rattle.rows.specs.declared.Verdict.the-variants.{Whole, Faulty}
 use Rattle.rows.specs.declared.Leaves.the-variants.{Symbols, Blanks}
-use Rattle.rows.specs.declared.Refusal.the-variants.{AlphabetSize, ArityOver, NoLeaf, Row, BufferShort, Stale, Pattern, Replacement, Position}
+use Rattle.rows.specs.declared.Refusal.the-variants.{AlphabetSize, ArityOver, NoLeaf, Row, BufferShort, Stale, Pattern, Replacement, Position, TooLong, OutputShort}
 use Rattle.rows.specs.declared.Check.{Check}
 use Rattle.rows.specs.declared.Check.the-variants.{Fine, Refused}
 
@@ -86,3 +86,11 @@ replacement A v = asReplacement (reading A Symbols 16384 v)
 -- 17: the position is below the row length n
 unfoldable pub position : ℕ → ℕ → Check
 position n p = pick (ltb p n) Fine (Refused (Position p))
+
+-- 18: the new row of m symbols is at most 16,384 long, and the shortest of its buffers, of `room` places, has room for it
+unfoldable pub grown : ℕ → ℕ → Check
+grown m room = pick (ltb (min 16384 room) m) (Refused (TooLong m)) Fine
+
+-- 19: n numbers have room in an output of m places
+unfoldable pub output : ℕ → ℕ → Check
+output n m = pick (ltb m n) (Refused (OutputShort n)) Fine

@@ -11,7 +11,7 @@ use lib.ListN.{length, drop, take}
 use Rattle.rows.specs.Row.{pick, sized}
 use Rattle.rows.specs.Parse.{table}
 use Rattle.rows.specs.Buffers.{written}
-use Rattle.rows.specs.Refusals.{_then_, asRow, alphabet, sizes, symbols, fresh, kept, given, pattern}
+use Rattle.rows.specs.Refusals.{_then_, asRow, alphabet, sizes, symbols, fresh, kept, given, pattern, output}
 use Rattle.rows.specs.declared.Fault.the-variants.{Empty, Long}
 use Rattle.rows.specs.declared.Verdict.the-variants.{Whole, Faulty}
 use Rattle.rows.specs.declared.Refusal.{Refusal}
@@ -26,7 +26,7 @@ use Rattle.patterns.specs.Answers.{Listed}
 use Rattle.patterns.specs.Searchable.{Checked}
 use Rattle.searches.proofs.Counting.{listed-length}
 use Rattle.buffers.proofs.Written.{length-written}
-use Rattle.checks.specs.Checks.{buildCheck, searchCheck, output, findCheck}
+use Rattle.checks.specs.Checks.{buildCheck, searchCheck, findCheck}
 use Rattle.sparrowhem.specs.Build.{Built}
 use Rattle.sparrowhem.specs.Search.{Finds}
 use Rattle.sparrowhem.specs.declared.search.Found.{Found}

@@ -13,7 +13,7 @@ use lib.Seq.{drop-at}
 use Rattle.rows.specs.Parse.{table}
 use Rattle.rows.specs.Row.{pick}
 use Rattle.rows.specs.Buffers.{written, after}
-use Rattle.rows.specs.Refusals.{_then_}
+use Rattle.rows.specs.Refusals.{_then_, output}
 use Rattle.rows.specs.declared.Refusal.{Refusal}
 use Rattle.rows.specs.declared.Refusal.the-variants.{OutputShort}
 use Rattle.rows.specs.declared.Check.{Check}
@@ -23,7 +23,7 @@ use Rattle.patterns.specs.Answers.{MatchesAt, Listed, spans}
 use Rattle.searches.specs.Searches.{Lists, Binds as Bound-at}
 use Rattle.patterns.specs.Walk.{comesThrough}
 use Rattle.patterns.proofs.Promises.{one-list, walk-right}
-use Rattle.checks.specs.Checks.{searchCheck, output, findCheck, variablesCheck}
+use Rattle.checks.specs.Checks.{searchCheck, findCheck, variablesCheck}
 use Rattle.sparrowhem.specs.Search.{found, Finds, bound, Binds}
 use Rattle.sparrowhem.specs.declared.search.Found.{Found}
 use Rattle.sparrowhem.specs.declared.search.Found.the-variants.{Matches, Refused as FindRefused}

@@ -5,7 +5,7 @@ use mathlib.Core.Path.{sym, _∙_}
 use native.Mathlib.Omega.{arith}
 use lib.ListN.{getD}
 use denote.Ref.{now}
-use Rattle.edits.specs.Replace.{grown}
+use Rattle.rows.specs.Refusals.{grown}
 use Rattle.edits.proofs.Place.{position-past, position-in, grown-over, grown-fits}
 use borrow.Author.Needs.{needs}
 use Rattle.edits.proofs.check_place.Statement.{statement}

@@ -4,9 +4,8 @@ use Prim.Native.Nat.{ℕ, _+_, _-_, min}
 use mathlib.Core.Path.{_≡_, sym, ap, _∙_}
 use lib.ListN.{length, getD}
 use denote.Ref.{now}
-use Rattle.rows.specs.Refusals.{_then_, asReplacement, replacement, position}
+use Rattle.rows.specs.Refusals.{_then_, asReplacement, replacement, position, grown}
 use Rattle.rows.specs.declared.Check.the-variants.{Fine}
-use Rattle.edits.specs.Replace.{grown}
 use Rattle.checks.specs.Checks.{replaceCheck}
 use Rattle.checks.proofs.Replacing.{Held, held-fine, held-end, replacement-fine, place-check}
 use borrow.Author.Needs.{needs}

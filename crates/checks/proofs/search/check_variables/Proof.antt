@@ -2,8 +2,8 @@
 -- Assumes nothing.
 use mathlib.Core.Path.{sym, _∙_}
 use borrow.Author.Tests.{lt-ltb, le-ltb}
-use Rattle.rows.specs.Refusals.{position}
-use Rattle.checks.specs.Checks.{output, variablesCheck}
+use Rattle.rows.specs.Refusals.{position, output}
+use Rattle.checks.specs.Checks.{variablesCheck}
 use borrow.Author.Needs.{needs}
 use Rattle.checks.proofs.search.check_variables.Statement.{statement}
 use Rattle.checks.proofs.search.check_variables.Tie as tie
