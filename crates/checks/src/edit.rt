@@ -10,13 +10,15 @@ use rows::Verdict;
 fn check_held(arities: &[u16], row: &[u16], table: &[u16], n: usize) -> Check
     ensures { λ r. ⌜ r ≡ heldCheck (now (arities .entry)) (now (row .entry)) (now (table .entry)) n ⌝ }
 {
-    match rows::check_alphabet(arities) {
-        Check::Refused(r) => Check::Refused(r),
-        Check::Fine => match rows::check_sizes(n, rows::shorter(row.len(), table.len())) {
-            Check::Refused(r) => Check::Refused(r),
-            Check::Fine => tables::check_right(arities, &row[..n], table),
-        },
-    }
+    let alphabet = rows::check_alphabet(arities);
+    let Check::Fine = alphabet else {
+        return alphabet;
+    };
+    let sizes = rows::check_sizes(n, rows::shorter(row.len(), table.len()));
+    let Check::Fine = sizes else {
+        return sizes;
+    };
+    tables::check_right(arities, &row[..n], table)
 }
 
 // Refusals 1 to 10, 24 to 29, 17 and 18.
@@ -30,14 +32,13 @@ pub fn check_replace(
 ) -> Check
     ensures { λ r. ⌜ r ≡ replaceCheck (now (arities .entry)) (now (row .entry)) (now (table .entry)) n (now (replacement .entry)) position ⌝ }
 {
-    match check_held(arities, row, table, n) {
-        Check::Refused(r) => Check::Refused(r),
-        Check::Fine => match rows::check_reading(arities, replacement, Leaves::Symbols, 16384) {
-            Verdict::Faulty(f) => Check::Refused(Refusal::Replacement(f)),
-            Verdict::Whole => {
-                let room = rows::shorter(row.len(), table.len());
-                edits::check_place(table, room, n, replacement.len(), position)
-            }
-        },
+    let held = check_held(arities, row, table, n);
+    let Check::Fine = held else {
+        return held;
+    };
+    if let Verdict::Faulty(f) = rows::check_reading(arities, replacement, Leaves::Symbols, 16384) {
+        return Check::Refused(Refusal::Replacement(f));
     }
+    let room = rows::shorter(row.len(), table.len());
+    edits::check_place(table, room, n, replacement.len(), position)
 }

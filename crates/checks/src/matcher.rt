@@ -10,19 +10,19 @@ use rows::Verdict;
 pub fn check_plain(arities: &[u16], row: &[u16], pattern: &[u16], position: usize) -> Check
     ensures { λ r. ⌜ r ≡ plainCheck (now (arities .entry)) (now (row .entry)) (now (pattern .entry)) position ⌝ }
 {
-    match rows::check_alphabet(arities) {
-        Check::Refused(r) => Check::Refused(r),
-        Check::Fine => match rows::check_reading(arities, row, Leaves::Symbols, 16384) {
-            Verdict::Faulty(f) => Check::Refused(Refusal::Row(f)),
-            Verdict::Whole => match patterns::check_pattern(arities, pattern) {
-                Check::Refused(r) => Check::Refused(r),
-                Check::Fine => {
-                    if position < row.len() {
-                        return Check::Fine;
-                    }
-                    Check::Refused(Refusal::Position(position))
-                }
-            },
-        },
+    let alphabet = rows::check_alphabet(arities);
+    let Check::Fine = alphabet else {
+        return alphabet;
+    };
+    if let Verdict::Faulty(f) = rows::check_reading(arities, row, Leaves::Symbols, 16384) {
+        return Check::Refused(Refusal::Row(f));
     }
+    let read = patterns::check_pattern(arities, pattern);
+    let Check::Fine = read else {
+        return read;
+    };
+    if position < row.len() {
+        return Check::Fine;
+    }
+    Check::Refused(Refusal::Position(position))
 }

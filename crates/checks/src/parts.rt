@@ -8,15 +8,14 @@ use rows::Refusal;
 pub fn check_subtree(arities: &[u16], row: &[u16], table: &[u16], position: usize) -> Check
     ensures { λ r. ⌜ r ≡ subtreeCheck (now (arities .entry)) (now (row .entry)) (now (table .entry)) position ⌝ }
 {
-    match tables::check_given(arities, row, table) {
-        Check::Refused(r) => Check::Refused(r),
-        Check::Fine => {
-            if position < row.len() {
-                return Check::Fine;
-            }
-            Check::Refused(Refusal::Position(position))
-        }
+    let given = tables::check_given(arities, row, table);
+    let Check::Fine = given else {
+        return given;
+    };
+    if position < row.len() {
+        return Check::Fine;
     }
+    Check::Refused(Refusal::Position(position))
 }
 
 // A refusal of a row with its table, 4 to 10, as that of the row on record, 44 to 50.
@@ -42,11 +41,12 @@ pub fn check_newer(
 ) -> Check
     ensures { λ r. ⌜ r ≡ newerCheck (now (arities .entry)) (now (corrected .entry)) (now («corrected_table» .entry)) (now («record» .entry)) (now («record_table» .entry)) (now (pattern .entry)) ⌝ }
 {
-    match tables::check_given(arities, corrected, corrected_table) {
-        Check::Refused(r) => Check::Refused(r),
-        Check::Fine => match tables::check_kept(arities, record, record_table) {
-            Check::Refused(r) => Check::Refused(recorded(r)),
-            Check::Fine => patterns::check_pattern(arities, pattern),
-        },
+    let given = tables::check_given(arities, corrected, corrected_table);
+    let Check::Fine = given else {
+        return given;
+    };
+    if let Check::Refused(r) = tables::check_kept(arities, record, record_table) {
+        return Check::Refused(recorded(r));
     }
+    patterns::check_pattern(arities, pattern)
 }

@@ -8,10 +8,11 @@ use rows::Refusal;
 pub fn check_search(arities: &[u16], row: &[u16], table: &[u16], pattern: &[u16]) -> Check
     ensures { λ r. ⌜ r ≡ searchCheck (now (arities .entry)) (now (row .entry)) (now (table .entry)) (now (pattern .entry)) ⌝ }
 {
-    match tables::check_given(arities, row, table) {
-        Check::Refused(r) => Check::Refused(r),
-        Check::Fine => patterns::check_pattern(arities, pattern),
-    }
+    let given = tables::check_given(arities, row, table);
+    let Check::Fine = given else {
+        return given;
+    };
+    patterns::check_pattern(arities, pattern)
 }
 
 // Refusals 1 to 15, 17, and 19 for an output of `places` places.
@@ -25,16 +26,15 @@ pub fn check_variables(
 ) -> Check
     ensures { λ r. ⌜ r ≡ variablesCheck (now (arities .entry)) (now (row .entry)) (now (table .entry)) (now (pattern .entry)) position places ⌝ }
 {
-    match check_search(arities, row, table, pattern) {
-        Check::Refused(r) => Check::Refused(r),
-        Check::Fine => {
-            if row.len() <= position {
-                return Check::Refused(Refusal::Position(position));
-            }
-            if places < 32 {
-                return Check::Refused(Refusal::OutputShort(32));
-            }
-            Check::Fine
-        }
+    let search = check_search(arities, row, table, pattern);
+    let Check::Fine = search else {
+        return search;
+    };
+    if row.len() <= position {
+        return Check::Refused(Refusal::Position(position));
     }
+    if places < 32 {
+        return Check::Refused(Refusal::OutputShort(32));
+    }
+    Check::Fine
 }

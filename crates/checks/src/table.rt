@@ -7,11 +7,13 @@ use rows::Check;
 pub fn check_build(arities: &[u16], row: &[u16], places: usize) -> Check
     ensures { λ r. ⌜ r ≡ buildCheck (now (arities .entry)) (now (row .entry)) places ⌝ }
 {
-    match rows::check_alphabet(arities) {
-        Check::Refused(r) => Check::Refused(r),
-        Check::Fine => match rows::check_sizes(row.len(), places) {
-            Check::Refused(r) => Check::Refused(r),
-            Check::Fine => rows::check_symbols(arities, row),
-        },
-    }
+    let alphabet = rows::check_alphabet(arities);
+    let Check::Fine = alphabet else {
+        return alphabet;
+    };
+    let sizes = rows::check_sizes(row.len(), places);
+    let Check::Fine = sizes else {
+        return sizes;
+    };
+    rows::check_symbols(arities, row)
 }

@@ -1,7 +1,7 @@
 -- `checks::edit::check_held` meets its contract. The checks on the way decide each case.
 -- Assumes nothing.
-use Prim.Native.Nat.{min}
 use mathlib.Core.Path.{_≡_, sym, ap, _∙_}
+use Prim.Native.Nat.{min}
 use lib.ListN.{length}
 use lib.Seq.{length-take-le}
 use denote.Ref.{now}
@@ -14,18 +14,21 @@ use Rattle.checks.proofs.edit.check_held.Statement.{statement}
 use Rattle.checks.proofs.edit.check_held.Tie as tie
 
 -- the sizes, told of the shorter buffer
-fine : (c : tie.After-enum-told2)
-    → sizes (c .before .before .before .before .before .before .before .before .before .before .args .n) (min (length (now (c .before .before .before .before .before .before .before .before .before .before .args .row))) (length (now (c .before .before .before .before .before .before .before .before .before .before .args .table)))) ≡ Fine
-fine c = ap (sizes (c .before .before .before .before .before .before .before .before .before .before .args .n)) (sym (c .before .before .before .shorter .ensures)) ∙ sym (c .before .before .check-sizes .ensures) ∙ c .enum-told2 .given .1
+fine : (c : tie.After-enum-told3) → sizes (c .before .before .before .before .before .before .before .before .before .before .args .n) (min (length (now (c .before .before .before .before .before .before .before .before .before .before .args .row))) (length (now (c .before .before .before .before .before .before .before .before .before .before .args .table)))) ≡ Fine
+fine c = ap (sizes (c .before .before .before .before .before .before .before .before .before .before .args .n)) (sym (c .before .before .before .shorter .ensures)) ∙ sym (c .before .before .check-sizes .ensures) ∙ c .enum-told3 .given .1
 
 check-alphabet-requires : tie.Need-check-alphabet-requires
 check-alphabet-requires c κs = search needs
 
-enum-known-r : tie.Need-enum-known-r
-enum-known-r c = search needs
-
 enum-told : tie.Need-enum-told
 enum-told c = search needs
+
+enum-told-2 : tie.Need-enum-told-2
+enum-told-2 c = search needs
+
+returns : tie.Need-returns
+unfolding heldCheck
+returns c = simp (c .enum-told2 .given .1, sym (c .before .before .check-alphabet .ensures) ∙ c .enum-told2 .given .1)
 
 shorter-requires : tie.Need-shorter-requires
 shorter-requires c κs = search needs
@@ -33,11 +36,20 @@ shorter-requires c κs = search needs
 check-sizes-requires : tie.Need-check-sizes-requires
 check-sizes-requires c κs = search needs
 
-enum-known-r-2 : tie.Need-enum-known-r-2
-enum-known-r-2 c = search needs
+enum-told-3 : tie.Need-enum-told-3
+enum-told-3 c = search needs
 
-enum-told-2 : tie.Need-enum-told-2
-enum-told-2 c = search needs
+enum-told-4 : tie.Need-enum-told-4
+enum-told-4 c = search needs
+
+returns-2 : tie.Need-returns-2
+unfolding heldCheck
+returns-2 c =
+    simp (
+      sym (c .before .before .before .before .before .before .check-alphabet .ensures) ∙ c .before .before .before .before .enum-told .given .1,
+      c .enum-told4 .given .1,
+      ap (sizes (c .before .before .before .before .before .before .before .before .before .before .args .n)) (sym (c .before .before .before .shorter .ensures)) ∙ sym (c .before .before .check-sizes .ensures) ∙ c .enum-told4 .given .1,
+    )
 
 slice-aggregate-check-right : tie.Need-slice-aggregate-check-right
 slice-aggregate-check-right c =
@@ -49,38 +61,23 @@ check-right-requires c κs =
     let a = c .before .before .before .before .before .before .before .before .before .before .before .args in
     fits-sized (now (a .row)) (now (a .table)) (a .n) (fine (c .before)) .1
 
-returns : tie.Need-returns
-unfolding heldCheck
-returns c = simp (sym (c .before .before .before .check-alphabet .ensures) ∙ c .before .r .given .1)
-
-returns-2 : tie.Need-returns-2
-unfolding heldCheck
-returns-2 c =
-    let n = c .before .before .before .before .before .before .before .before .before .before .before .args .n in
-    simp (
-      sym (c .before .before .before .before .before .before .before .check-alphabet .ensures) ∙ c .before .before .before .before .before .enum-told .given .1,
-      ap (sizes n) (sym (c .before .before .before .before .shorter .ensures)) ∙ sym (c .before .before .before .check-sizes .ensures) ∙ c .before .r2 .given .1,
-    )
-
 returns-3 : tie.Need-returns-3
 unfolding heldCheck
-returns-3 c =
-    simp (sym (c .before .before .before .before .before .before .before .before .check-alphabet .ensures) ∙ c .before .before .before .before .before .before .enum-told .given .1, fine (c .before .before))
-    (c .check-right .ensures)
+returns-3 c = simp (sym (c .before .before .before .before .before .before .before .before .check-alphabet .ensures) ∙ c .before .before .before .before .before .before .enum-told .given .1, fine (c .before .before)) (c .check-right .ensures)
 
 pub check-held-spec : {M : Type 1} → statement M
 check-held-spec =
     tie.close
     (tie.spec
     check-alphabet-requires
-    enum-known-r
     enum-told
+    enum-told-2
+    returns
     shorter-requires
     check-sizes-requires
-    enum-known-r-2
-    enum-told-2
+    enum-told-3
+    enum-told-4
+    returns-2
     slice-aggregate-check-right
     check-right-requires
-    returns
-    returns-2
     returns-3)

@@ -13,23 +13,27 @@ use Rattle.checks.proofs.edit.check_replace.Statement.{statement}
 use Rattle.checks.proofs.edit.check_replace.Tie as tie
 
 -- what the row, its table and the replacement are, once their checks are through
-held : (c : tie.After-enum-told2) → Held (now (c .before .before .before .before .before .before .before .before .before .before .args .arities)) (now (c .before .before .before .before .before .before .before .before .before .before .args .row)) (now (c .before .before .before .before .before .before .before .before .before .before .args .table)) (c .before .before .before .before .before .before .before .before .before .before .args .n)
+held : (c : tie.After-enum-told3) → Held (now (c .before .before .before .before .before .before .before .before .before .before .args .arities)) (now (c .before .before .before .before .before .before .before .before .before .before .args .row)) (now (c .before .before .before .before .before .before .before .before .before .before .args .table)) (c .before .before .before .before .before .before .before .before .before .before .args .n)
 held c =
     let a = c .before .before .before .before .before .before .before .before .before .before .args in
     held-fine (now (a .arities)) (now (a .row)) (now (a .table)) (a .n) (sym (c .before .before .before .before .before .check-held .ensures) ∙ c .before .before .before .enum-told .given .1)
 
-whole : (c : tie.After-enum-told2) → replacement (now (c .before .before .before .before .before .before .before .before .before .before .args .arities)) (now (c .before .before .before .before .before .before .before .before .before .before .args .replacement)) ≡ Fine
+whole : (c : tie.After-enum-told3) → replacement (now (c .before .before .before .before .before .before .before .before .before .before .args .arities)) (now (c .before .before .before .before .before .before .before .before .before .before .args .replacement)) ≡ Fine
 unfolding replacement
-whole c = ap asReplacement (sym (c .before .before .check-reading .ensures) ∙ c .enum-told2 .given .1)
+whole c = ap asReplacement (sym (c .before .before .check-reading .ensures) ∙ c .enum-told3 .given .1)
 
 check-held-requires : tie.Need-check-held-requires
 check-held-requires c κs = search needs
 
-enum-known-r : tie.Need-enum-known-r
-enum-known-r c = search needs
-
 enum-told : tie.Need-enum-told
 enum-told c = search needs
+
+enum-told-2 : tie.Need-enum-told-2
+enum-told-2 c = search needs
+
+returns : tie.Need-returns
+unfolding replaceCheck
+returns c = simp (c .enum-told2 .given .1, sym (c .before .before .check-held .ensures) ∙ c .enum-told2 .given .1)
 
 check-reading-requires : tie.Need-check-reading-requires
 check-reading-requires c κs = search needs
@@ -37,8 +41,13 @@ check-reading-requires c κs = search needs
 enum-known-f : tie.Need-enum-known-f
 enum-known-f c = search needs
 
-enum-told-2 : tie.Need-enum-told-2
-enum-told-2 c = search needs
+returns-2 : tie.Need-returns-2
+unfolding replaceCheck replacement
+returns-2 c =
+    simp (sym (c .before .before .before .before .before .before .check-held .ensures) ∙ c .before .before .before .before .enum-told .given .1, sym (c .before .before .before .check-reading .ensures) ∙ c .before .f .given .1)
+
+enum-told-3 : tie.Need-enum-told-3
+enum-told-3 c = search needs
 
 shorter-requires : tie.Need-shorter-requires
 shorter-requires c κs = search needs
@@ -48,18 +57,6 @@ check-place-requires c κs =
     let a = c .before .before .before .before .before .before .before .before .before .before .before .args in
     let h = held (c .before) in
     (h .most, replacement-fine (now (a .arities)) (now (a .replacement)) (whole (c .before)) .0, h .beside, held-end (now (a .arities)) (now (a .row)) (now (a .table)) (a .n) (a .position) h)
-
-returns : tie.Need-returns
-unfolding replaceCheck
-returns c = simp (sym (c .before .before .before .check-held .ensures) ∙ c .before .r .given .1)
-
-returns-2 : tie.Need-returns-2
-unfolding replaceCheck replacement
-returns-2 c =
-    simp (
-      sym (c .before .before .before .before .before .before .check-held .ensures) ∙ c .before .before .before .before .enum-told .given .1,
-      sym (c .before .before .before .check-reading .ensures) ∙ c .before .f .given .1,
-    )
 
 returns-3 : tie.Need-returns-3
 unfolding replaceCheck
@@ -81,13 +78,13 @@ check-replace-spec =
     tie.close
     (tie.spec
     check-held-requires
-    enum-known-r
     enum-told
+    enum-told-2
+    returns
     check-reading-requires
     enum-known-f
-    enum-told-2
+    returns-2
+    enum-told-3
     shorter-requires
     check-place-requires
-    returns
-    returns-2
     returns-3)

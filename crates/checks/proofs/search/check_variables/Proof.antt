@@ -11,24 +11,24 @@ use Rattle.checks.proofs.search.check_variables.Tie as tie
 check-search-requires : tie.Need-check-search-requires
 check-search-requires c κs = search needs
 
-enum-known-r : tie.Need-enum-known-r
-enum-known-r c = search needs
-
 enum-told : tie.Need-enum-told
 enum-told c = search needs
 
+enum-told-2 : tie.Need-enum-told-2
+enum-told-2 c = search needs
+
 returns : tie.Need-returns
-unfolding variablesCheck position
-returns c = simp (sym (c .before .before .before .check-search .ensures) ∙ c .before .enum-told .given .1, le-ltb _ _ (c .if1 .taken))
+unfolding variablesCheck
+returns c = simp (c .enum-told2 .given .1, sym (c .before .before .check-search .ensures) ∙ c .enum-told2 .given .1)
 
 returns-2 : tie.Need-returns-2
-unfolding variablesCheck position output
-returns-2 c =
-    simp (sym (c .before .before .before .before .check-search .ensures) ∙ c .before .before .enum-told .given .1, lt-ltb _ _ (c .before .if1 .left), lt-ltb _ _ (c .if2 .taken))
+unfolding variablesCheck position
+returns-2 c = simp (sym (c .before .before .before .check-search .ensures) ∙ c .before .enum-told .given .1, le-ltb _ _ (c .if1 .taken))
 
 returns-3 : tie.Need-returns-3
-unfolding variablesCheck
-returns-3 c = simp (sym (c .before .before .before .check-search .ensures) ∙ c .before .r .given .1)
+unfolding variablesCheck position output
+returns-3 c =
+    simp (sym (c .before .before .before .before .check-search .ensures) ∙ c .before .before .enum-told .given .1, lt-ltb _ _ (c .before .if1 .left), lt-ltb _ _ (c .if2 .taken))
 
 returns-4 : tie.Need-returns-4
 unfolding variablesCheck position output
@@ -38,4 +38,4 @@ returns-4 c =
 pub check-variables-spec : {M : Type 1} → statement M
 check-variables-spec =
     tie.close
-    (tie.spec check-search-requires enum-known-r enum-told returns returns-2 returns-3 returns-4)
+    (tie.spec check-search-requires enum-told enum-told-2 returns returns-2 returns-3 returns-4)
