@@ -1,4 +1,4 @@
-// What find and the variables call refuse.
+// What find refuses before it looks for matches (its refusal 19 needs their count), and what the variables call refuses.
 ghost use mathlib.Core.Path.{_≡_};
 ghost use Rattle.checks.specs.Checks.{searchCheck, variablesCheck};
 use rows::Check;

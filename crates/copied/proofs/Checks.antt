@@ -3,34 +3,24 @@
 use Prim.Native.Nat.{ℕ, _≤_, _<_, min}
 use mathlib.Core.Path.{_≡_, refl, sym, ap, _∙_}
 use mathlib.Core.List.{List}
-use mathlib.Core.Bool.{Bool, true, false}
 use native.Mathlib.Omega.{arith}
-use borrow.Author.Tests.{lt-ltb, le-ltb, ltb-false}
-use lib.Dec.{ltb}
+use borrow.Author.Tests.{lt-ltb, le-ltb}
 use lib.ListN.{length, take}
-use Rattle.rows.specs.Row.{pick, sized, reading}
+use Rattle.rows.specs.Row.{sized, reading}
 use Rattle.rows.specs.Tree.{size}
 use Rattle.rows.specs.Refusals.{_then_, alphabetSize, aritiesFit, someLeaf, alphabet, sizes, symbols, fresh, kept, given, pattern, replacement, position, grown}
 use Rattle.rows.specs.declared.Check.{Check}
 use Rattle.rows.specs.declared.Check.the-variants.{Fine, Refused}
 use Rattle.rows.specs.declared.Fault.the-variants.{Long}
 use Rattle.rows.specs.declared.Refusal.{Refusal}
-use Rattle.rows.specs.declared.Refusal.the-variants.{AlphabetSize, Pattern, Replacement}
+use Rattle.rows.specs.declared.Refusal.the-variants.{Pattern, Replacement}
 use Rattle.tables.proofs.Given.{both-fine, sizes-fits}
 use Rattle.edits.specs.Put.{changed}
 use Rattle.checks.specs.Checks.{searchCheck, heldCheck, replaceCheck}
+use Rattle.checks.proofs.Passing.{few}
 use Rattle.lent.specs.Answer.{refused, refusedBy}
 use Rattle.lent.proofs.Checks.{then-assoc}
 use Rattle.copied.specs.Copies.{Copyable}
-
-few : (n : ℕ) → alphabetSize n ≡ Fine → n ≤ 1024
-unfolding alphabetSize
-few n e = go (ltb n 1) (ltb 1024 n) refl e
-  where
-    go : (a b : Bool) → ltb 1024 n ≡ b → pick a (Refused (AlphabetSize n)) (pick b (Refused (AlphabetSize n)) Fine) ≡ Fine → n ≤ 1024
-    go true b q e = let z : _≡_ {A = ℕ} 0 1 = cc in absurd (omega arith)
-    go false true q e = let z : _≡_ {A = ℕ} 0 1 = cc in absurd (omega arith)
-    go false false q e = ltb-false 1024 n q
 
 -- what refusals 1 to 6 leave, and what leaves nothing for 4, 5 and 6
 pub copyable : (A : List ℕ) (n m : ℕ) → alphabet A then sizes n m ≡ Fine → Copyable A n m

@@ -24,13 +24,6 @@ fn numbers_room() -> [u16; 32768]
     [0u16; 32768]
 }
 
-// Room for a table, or for the positions of all matches.
-fn row_room() -> [u16; 16384]
-    ensures { λ r. ⌜ 16384 ≡ length r ⌝ }
-{
-    [0u16; 16384]
-}
-
 // The first n bytes go out.
 fn write_out(out: &[u8], n: usize)
     requires { ⌜ n ≤ length (now out) ⌝ }
@@ -87,8 +80,8 @@ fn respond(input: &[u8], out: &mut [u8])
     requires { ⌜ 1053 ≤ length (now out) ⌝ }
 {
     let mut numbers = numbers_room();
-    let mut table = row_room();
-    let mut positions = row_room();
+    let mut table = tables::long_room();
+    let mut positions = tables::long_room();
     match seek_text::answer_input(input, &mut numbers, &mut table, &mut positions) {
         Answer::Refused(r) => write_refusal(r, out),
         Answer::Found(a, e, p, count) => write_found(

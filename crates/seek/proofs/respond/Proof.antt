@@ -7,11 +7,11 @@ use Rattle.seek.proofs.respond.Tie as tie
 numbers-room-requires : tie.Need-numbers-room-requires
 numbers-room-requires c κs = search needs
 
-row-room-requires : tie.Need-row-room-requires
-row-room-requires c κs = search needs
+long-room-requires : tie.Need-long-room-requires
+long-room-requires c κs = search needs
 
-row-room-requires-2 : tie.Need-row-room-requires-2
-row-room-requires-2 c κs = search needs
+long-room-requires-2 : tie.Need-long-room-requires-2
+long-room-requires-2 c κs = search needs
 
 slice-aggregate-answer-input : tie.Need-slice-aggregate-answer-input
 slice-aggregate-answer-input c = search needs
@@ -64,8 +64,8 @@ respond-spec =
     tie.close
     (tie.spec
     numbers-room-requires
-    row-room-requires
-    row-room-requires-2
+    long-room-requires
+    long-room-requires-2
     slice-aggregate-answer-input
     slice-aggregate-answer-input-2
     slice-aggregate-answer-input-3
