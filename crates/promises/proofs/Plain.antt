@@ -1,6 +1,6 @@
 -- The promises of specs/Plain, each with its proof.
 -- Assumes nothing.
-use Prim.Native.Nat.{ℕ}
+use Prim.Native.Nat.{ℕ, _≤_}
 use mathlib.Core.Path.{_≡_, refl, sym, ap, _∙_, subst}
 use mathlib.Core.List.{List, List·Memᴰ}
 use mathlib.Core.Bool.{Bool, true, false}
@@ -19,7 +19,7 @@ use Rattle.rows.specs.declared.Check.the-variants.{Fine, Refused}
 use Rattle.tables.proofs.Given.{both-fine}
 use Rattle.checks.specs.Checks.{rowCheck, plainCheck, searchCheck, findCheck}
 use Rattle.sparrowhem.specs.Plain.{PlainSays}
-use Rattle.promises.specs.Plain.{Plain-settled, Plain-yes, Both, Plain-finds, Shared, Plain-refuses}
+use Rattle.promises.specs.Plain.{Plain-settled, Plain-yes, Both, Plain-finds, Plain-refuses}
 use Rattle.sparrowhem.specs.Search.{found, Finds}
 use Rattle.sparrowhem.specs.declared.matcher.Fits.{Fits}
 use Rattle.sparrowhem.specs.declared.matcher.Fits.the-variants.{Yes, No, Refused as PlainRefused}
@@ -93,17 +93,17 @@ module _ (A w q t y : List ℕ) (f : Found) (y′ : List ℕ) (p : ℕ) (r : Fit
           plain-yes A w q p r (b .says) .1 (fine, here .1)
 
   -- a refusal of what both look at first comes from both; no other refusal is shared
-  pub agree-no : (x : Refusal) → Shared x → (r ≡ PlainRefused x) ↔ (f ≡ FindRefused x)
+  pub agree-no : (x : Refusal) → number x ≤ 15 → (r ≡ PlainRefused x) ↔ (f ≡ FindRefused x)
   unfolding position output
   agree-no x s = go first refl
     where
       -- 17 and 19 are not
       not-seventeen : (c : Bool) → pick c Fine (Refused (Position p)) ≡ Refused x → ⊥
       not-seventeen true z = clash Fine x refl z
-      not-seventeen false z = let same : Position p ≡ x = cc in omega (arith, s .0, ap number same)
+      not-seventeen false z = let same : Position p ≡ x = cc in omega (arith, s, ap number same)
 
       not-nineteen : (c : Bool) (n : ℕ) → FindRefused x ≡ found (pick c (Refused (OutputShort n)) Fine) n → ⊥
-      not-nineteen true n z = let same : OutputShort n ≡ x = cc in omega (arith, s .0, ap number same)
+      not-nineteen true n z = let same : OutputShort n ≡ x = cc in omega (arith, s, ap number same)
       not-nineteen false n z = let k : _≡_ {A = ℕ} 0 1 = cc in omega arith
 
       later-plain : first ≡ Fine → r ≡ PlainRefused x → ⊥

@@ -44,11 +44,7 @@ Plain-finds = (A w q t y : List ℕ) (f : Found) (y′ : List ℕ) (p : ℕ) (r 
     → ((n : ℕ) → f ≡ FindRefused (OutputShort n) → ⊥)
     → (r ≡ Yes) ↔ ((n : ℕ) × (f ≡ Matches n) × List·Memᴰ p (take n y′))
 
--- a refusal from 1 to 5, 7 to 9 or 11 to 15
-abbrev pub Shared : Refusal → Type 0
-Shared x = (number x ≤ 15) × (number x ≡ 6 → ⊥) × (number x ≡ 10 → ⊥)
-
--- Such a refusal is the same from both.
+-- A refusal up to 15 is the same from both. (6 and 10 come from neither, since the table is long enough and the row's.)
 abbrev pub Plain-refuses : Type 0
 Plain-refuses = (A w q t y : List ℕ) (f : Found) (y′ : List ℕ) (p : ℕ) (r : Fits) → Both A w q t y f y′ p r
-    → (x : Refusal) → Shared x → (r ≡ PlainRefused x) ↔ (f ≡ FindRefused x)
+    → (x : Refusal) → number x ≤ 15 → (r ≡ PlainRefused x) ↔ (f ≡ FindRefused x)
