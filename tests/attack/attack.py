@@ -8,7 +8,8 @@ contract has a hole. Those that are known to answer the same stand in same_answe
     python3 tests/attack/attack.py [CRATE ..]
 
 Without a name it tries every crate but the programs, and `script`, by which two of them print. That takes about an hour, so it
-is no part of the gate. A line tells of each version that is proved and not known; the exit status is 0 if there is none.
+is no part of the gate. A line tells of each version that is proved and not known, and of each known one that is not proved; the
+exit status is 0 if there is none.
 """
 import os
 import re
@@ -19,7 +20,7 @@ import tempfile
 
 HERE = os.path.dirname(os.path.abspath(__file__))
 ROOT = os.path.dirname(os.path.dirname(HERE))
-WORDS = {
+INSTEAD = {
     " < ": (" <= ", " > "),
     " <= ": (" < ",),
     " == ": (" != ",),
@@ -37,7 +38,7 @@ def versions(line):
     """The line with one thing changed, in each way."""
     code = line.split("//")[0]
     changes = []
-    for word, others in WORDS.items():
+    for word, others in INSTEAD.items():
         changes += [(m, other) for m in re.finditer(re.escape(word), code) for other in others]
     for m in NUMBER.finditer(code):
         changes += [(m, str(n) + m[2]) for n in (int(m[1]) + 1, int(m[1]) - 1) if n >= 0]
@@ -79,7 +80,9 @@ def verdict(copy, crate):
     return told[-1] if told else "not compiled"
 
 
-def attack(copy, crate, known, counts):
+def attack(copy, crate, counts):
+    """Tries each version of a crate, and gives the names of those that are proved."""
+    proved = set()
     source = os.path.join(copy, "crates", crate, "src")
     for file in sorted(os.listdir(source)):
         path = os.path.join(source, file)
@@ -91,28 +94,31 @@ def attack(copy, crate, known, counts):
                 with open(path, "w", encoding="utf-8") as wrong:
                     wrong.write("\n".join(lines[:number] + [changed] + lines[number + 1 :]))
                 told = verdict(copy, crate)
-                name = f"{crate}::{function}: {lines[number].strip()} => {changed.strip()}"
-                if told == "proved" and name in known:
-                    told = "known"
-                elif told == "proved":
-                    print(f"proved: {name}", flush=True)
                 counts[told] = counts.get(told, 0) + 1
+                if told == "proved":
+                    proved.add(f"{crate}::{function}: {lines[number].strip()} => {changed.strip()}")
         with open(path, "w", encoding="utf-8") as right:
             right.write(text)
+    return proved
 
 
 def main():
-    counts = {}
+    crates = sys.argv[1:] or tried_crates()
+    known = {name for name in known_versions() if name.split("::")[0] in crates}
+    proved, counts = set(), {}
     with tempfile.TemporaryDirectory() as room:
         copy = os.path.join(room, "copy")
         shutil.copytree(ROOT, copy, ignore=shutil.ignore_patterns(".git"))
-        for crate in sys.argv[1:] or tried_crates():
+        for crate in crates:
             if verdict(copy, crate) != "proved":
                 sys.exit(f"{crate} itself is not proved")
-            attack(copy, crate, known_versions(), counts)
-    words = {"not-proved": "refused", "known": "answer the same", "proved": "proved", "not compiled": "not compiled"}
-    print(", ".join(f"{counts.get(key, 0)} {word}" for key, word in words.items()))
-    sys.exit(1 if counts.get("proved") else 0)
+            proved |= attack(copy, crate, counts)
+    for name in sorted(proved - known):
+        print(f"proved: {name}")
+    for name in sorted(known - proved):
+        print(f"in same_answers.txt, and not proved: {name}")
+    print(f"{counts.get('not-proved', 0)} refused, {len(known & proved)} answer the same, {counts.get('not compiled', 0)} not compiled")
+    sys.exit(0 if proved == known else 1)
 
 
 if __name__ == "__main__":
