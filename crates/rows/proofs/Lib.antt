@@ -8,3 +8,4 @@ pub mod Entry
 pub mod Subtrees
 pub mod Buffers
 pub mod Promises
+pub mod Passing

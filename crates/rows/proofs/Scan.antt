@@ -17,7 +17,9 @@ use Rattle.rows.specs.declared.Leaves.the-variants.{Symbols, Blanks}
 use Rattle.rows.specs.Refusals.{aritiesFit, someLeaf}
 use Rattle.rows.specs.declared.Fault.the-variants.{Empty, Long, Stray, Early, Extra}
 use Rattle.rows.specs.declared.Verdict.the-variants.{Whole, Faulty}
-use Rattle.rows.specs.declared.Refusal.the-variants.{ArityOver}
+use Rattle.rows.specs.Limits.{arityMost}
+use Rattle.rows.specs.declared.Arities.the-variants.{Over}
+use Rattle.rows.specs.declared.Refusal.the-variants.{Arities}
 use Rattle.rows.specs.declared.Check.the-variants.{Fine, Refused}
 
 -- the list from i on is its element there and the list from i + 1 on
@@ -25,7 +27,7 @@ pub drop-more : (l : List ℕ) (i : ℕ) → i < length l → drop i l ≡ getD 
 drop-more l i h = rw add-one (drop-cons l i 0 h)
 
 pub arity-at : (l : List ℕ) (i : ℕ) → i < length l
-    → aritiesFit i (drop i l) ≡ pick (ltb 15 (getD l i 0)) (Refused (ArityOver i)) (aritiesFit (i + 1) (drop (i + 1) l))
+    → aritiesFit i (drop i l) ≡ pick (ltb arityMost (getD l i 0)) (Refused (Arities (Over i))) (aritiesFit (i + 1) (drop (i + 1) l))
 unfolding aritiesFit
 arity-at l i h = ap (aritiesFit i) (drop-more l i h)
 

@@ -5,6 +5,7 @@ use mathlib.Core.List.{List, [], _∷_}
 use mathlib.Core.Bool.{Bool, true, false}
 use lib.Dec.{T, ltb, eqb}
 use lib.ListN.{getD, length, take, drop}
+use Rattle.rows.specs.Limits.{blank, firstVariable, variables}
 use Rattle.rows.specs.declared.Fault.the-variants.{Empty, Long, Stray, Early, Extra}
 use Rattle.rows.specs.declared.Verdict.{Verdict}
 use Rattle.rows.specs.declared.Verdict.the-variants.{Whole, Faulty}
@@ -49,12 +50,12 @@ symbol A s = ltb s (length A)
 
 -- X0 to X15
 abbrev pub isVariable : ℕ → Bool
-isVariable s = pick (ltb s 65280) false (ltb s 65296)
+isVariable s = pick (ltb s firstVariable) false (ltb s (firstVariable + variables))
 
 -- the numbers that may stand: in a row or a replacement the symbols; in a pattern also S and the variables
 abbrev pub allowed : Leaves → List ℕ → ℕ → Bool
 allowed Symbols A s = symbol A s
-allowed Blanks A s = pick (symbol A s) true (pick (eqb s 65535) true (isVariable s))
+allowed Blanks A s = pick (symbol A s) true (pick (eqb s blank) true (isVariable s))
 
 -- what reading accepts as a row
 abbrev pub Accepted : List ℕ → List ℕ → Type 0

@@ -5,7 +5,35 @@ ghost use mathlib.Core.List.{List, []};
 ghost use Prim.Native.Nat.{ℕ, _+_, _-_, _≤_, _<_, min};
 ghost use lib.ListN.{length, getD};
 ghost use Rattle.rows.specs.Row.{verdict, ReadTo, Reads, SymbolsTo, isVariable, allowed, sized, reading};
-ghost use Rattle.rows.specs.Refusals.{aritiesFit, someLeaf, alphabet, sizes, symbols};
+ghost use Rattle.rows.specs.Limits.{rowMost};
+ghost use Rattle.rows.specs.Programme.{alphabetOf};
+ghost use Rattle.rows.specs.Refusals.{aritiesFit, someLeaf, alphabet, keeps, sizes, symbols};
+ghost use Rattle.rows.specs.declared.Kept.{Kept};
+ghost use Rattle.rows.specs.declared.Refusal.{Refusal};
+
+// The sizes within which everything is accepted: the most symbols of an alphabet, the largest arity, the most symbols of a row
+// or a replacement, the most numbers of a pattern.
+pub const ALPHABET_MOST: usize = 1024;
+
+pub const ARITY_MOST: u16 = 15;
+
+pub const ROW_MOST: usize = 16384;
+
+pub const PATTERN_MOST: usize = 256;
+
+// The numbers with a meaning of their own: the blank S; the variable X0, and how many variables there are; what freed places
+// hold in a row and in what stands beside it.
+pub const BLANK: u16 = 65535;
+
+pub const FIRST_VARIABLE: u16 = 65280;
+
+pub const VARIABLES: u16 = 16;
+
+pub const PAST_VARIABLES: u16 = FIRST_VARIABLE + VARIABLES;
+
+pub const FREED_SYMBOL: u16 = 65535;
+
+pub const FREED_ENTRY: u16 = 0;
 
 // What is wrong with a list that should be a tree's prefix notation: it is empty, it is too long, a number may not stand
 // in it, it ends before its tree does, it goes on after its tree.
@@ -28,24 +56,42 @@ pub enum Leaves {
     Blanks,
 }
 
-// Why a call refuses: all refusals of document 01. The crate `numbers` gives their numbers and places.
-pub enum Refusal {
-    AlphabetSize(usize),
-    ArityOver(usize),
+// What is wrong with an alphabet: it has no symbols or too many, an arity is too large, no symbol is a leaf.
+pub enum Arities {
+    Count(usize),
+    Over(usize),
     NoLeaf,
-    Row(Fault),
-    BufferShort(usize),
+}
+
+// What is wrong with a row and what is kept beside it: its symbols, a list that is too short, an entry that is not the row's.
+pub enum Kept {
+    Misread(Fault),
+    Short(usize),
     Stale(usize),
-    OnRecord(Fault),
-    OnRecordShort(usize),
-    OnRecordStale(usize),
+}
+
+pub enum Keeping {
+    Sound,
+    Unsound(Kept),
+}
+
+// What is wrong with the input of a program: a line, or that it has too many bytes.
+pub enum Text {
+    Line(usize),
+    Bytes,
+}
+
+// Why a call refuses, by what is wrong. The crate `refusal_numbers` gives the numbers and places.
+pub enum Refusal {
+    Arities(Arities),
+    Row(Kept),
+    OnRecord(Kept),
     Pattern(Fault),
     Replacement(Fault),
     Position(usize),
     TooLong(usize),
     OutputShort(usize),
-    Line(usize),
-    InputLong,
+    Input(Text),
 }
 
 pub enum Check {
@@ -59,8 +105,8 @@ fn check_arities(arities: &[u16]) -> Check
 {
     let mut i = 0;
     while i < arities.len() {
-        if 15 < arities[i] {
-            return Check::Refused(Refusal::ArityOver(i));
+        if ARITY_MOST < arities[i] {
+            return Check::Refused(Refusal::Arities(Arities::Over(i)));
         }
         i += 1;
     }
@@ -78,19 +124,19 @@ fn check_leaf(arities: &[u16]) -> Check
         }
         i += 1;
     }
-    Check::Refused(Refusal::NoLeaf)
+    Check::Refused(Refusal::Arities(Arities::NoLeaf))
 }
 
 // Refusals 1, 2 and 3.
 pub fn check_alphabet(arities: &[u16]) -> Check
-    ensures { λ r. ⌜ r ≡ alphabet (now (arities .entry)) ⌝ }
+    ensures { λ r. ⌜ r ≡ alphabet (alphabetOf (now (arities .entry))) ⌝ }
 {
     let n = arities.len();
     if n < 1 {
-        return Check::Refused(Refusal::AlphabetSize(n));
+        return Check::Refused(Refusal::Arities(Arities::Count(n)));
     }
-    if 1024 < n {
-        return Check::Refused(Refusal::AlphabetSize(n));
+    if ALPHABET_MOST < n {
+        return Check::Refused(Refusal::Arities(Arities::Count(n)));
     }
     match check_arities(arities) {
         Check::Fine => check_leaf(arities),
@@ -110,10 +156,10 @@ pub fn arity_of(arities: &[u16], s: u16) -> u16
 pub fn is_variable(s: u16) -> bool
     ensures { λ r. ⌜ r ≡ isVariable s ⌝ }
 {
-    if s < 65280 {
+    if s < FIRST_VARIABLE {
         return false;
     }
-    s < 65296
+    s < PAST_VARIABLES
 }
 
 // May the number stand?
@@ -127,7 +173,7 @@ fn allows(leaves: Leaves, arities: &[u16], s: u16) -> bool
     match leaves {
         Leaves::Symbols => false,
         Leaves::Blanks => {
-            if s == 65535 {
+            if s == BLANK {
                 return true;
             }
             is_variable(s)
@@ -143,7 +189,7 @@ pub enum Read {
 
 // The number at i, where `due` symbols are due in all: one for the root, and as many as each symbol so far has children.
 fn read_at(arities: &[u16], row: &[u16], leaves: Leaves, i: usize, due: usize) -> Read
-    requires { ⌜ ReadTo (now arities) (allowed leaves (now arities)) (now row) i due × (i < length (now row)) × (length (now row) ≤ 16384) ⌝ }
+    requires { ⌜ ReadTo (now arities) (allowed leaves (now arities)) (now row) i due × (i < length (now row)) × (length (now row) ≤ rowMost) ⌝ }
     ensures { λ r. ⌜ Reads (now (arities .entry)) (allowed leaves (now (arities .entry))) (now (row .entry)) i r ⌝ }
 {
     if due == i {
@@ -176,7 +222,7 @@ pub struct Reached {
 
 // Reads on to the end, number by number.
 fn read_on(arities: &[u16], row: &[u16], leaves: Leaves, from: Reached) -> Verdict
-    requires { ⌜ ReadTo (now arities) (allowed leaves (now arities)) (now row) (from .at) (from .due) × (length (now row) ≤ 16384) ⌝ }
+    requires { ⌜ ReadTo (now arities) (allowed leaves (now arities)) (now row) (from .at) (from .due) × (length (now row) ≤ rowMost) ⌝ }
     ensures { λ r. ⌜ r ≡ verdict (now (arities .entry)) (allowed leaves (now (arities .entry))) 1 0 (now (row .entry)) ⌝ }
 {
     let mut i = from.at;
@@ -224,7 +270,7 @@ fn count_symbols(symbols: usize, row: &[u16]) -> usize
 
 // Reads at most the n numbers at the front, which are symbols, two a turn, and stops where nothing may be due any more.
 fn read_symbols(arities: &[u16], row: &[u16], n: usize) -> Reached
-    requires { ⌜ SymbolsTo (length (now arities)) (now row) n × (length (now row) ≤ 16384) ⌝ }
+    requires { ⌜ SymbolsTo (length (now arities)) (now row) n × (length (now row) ≤ rowMost) ⌝ }
     ensures { λ r. ⌜ ((leaves : Leaves) → ReadTo (now (arities .entry)) (allowed leaves (now (arities .entry))) (now (row .entry)) (r .at) (r .due)) ⌝ }
 {
     let mut due: usize = 1;
@@ -243,7 +289,7 @@ fn read_symbols(arities: &[u16], row: &[u16], n: usize) -> Reached
 // Is it a tree's prefix notation, with these leaves? The symbols at the front are read fast, without asking of each
 // whether it is one.
 pub fn check_row(arities: &[u16], row: &[u16], leaves: Leaves) -> Verdict
-    requires { ⌜ length (now row) ≤ 16384 ⌝ }
+    requires { ⌜ length (now row) ≤ rowMost ⌝ }
     ensures { λ r. ⌜ r ≡ verdict (now (arities .entry)) (allowed leaves (now (arities .entry))) 1 0 (now (row .entry)) ⌝ }
 {
     let n = count_symbols(arities.len(), row);
@@ -252,13 +298,13 @@ pub fn check_row(arities: &[u16], row: &[u16], leaves: Leaves) -> Verdict
 }
 
 // Refusals 7, 8 and 9: the row is one tree's.
-pub fn check_symbols(arities: &[u16], row: &[u16]) -> Check
-    requires { ⌜ length (now row) ≤ 16384 ⌝ }
-    ensures { λ r. ⌜ r ≡ symbols (now (arities .entry)) (now (row .entry)) ⌝ }
+pub fn check_symbols(arities: &[u16], row: &[u16]) -> Keeping
+    requires { ⌜ length (now row) ≤ rowMost ⌝ }
+    ensures { λ r. ⌜ ((whose : Kept → Refusal) → keeps whose r ≡ symbols whose (now (arities .entry)) (now (row .entry))) ⌝ }
 {
     match check_row(arities, row, Leaves::Symbols) {
-        Verdict::Faulty(f) => Check::Refused(Refusal::Row(f)),
-        Verdict::Whole => Check::Fine,
+        Verdict::Faulty(f) => Keeping::Unsound(Kept::Misread(f)),
+        Verdict::Whole => Keeping::Sound,
     }
 }
 
@@ -277,7 +323,7 @@ fn check_size(n: usize, most: usize) -> Verdict
 
 // A pattern or a replacement, whole: its length is from 1 to `most`, and it is a tree's prefix notation.
 pub fn check_reading(arities: &[u16], list: &[u16], leaves: Leaves, most: usize) -> Verdict
-    requires { ⌜ most ≤ 16384 ⌝ }
+    requires { ⌜ most ≤ rowMost ⌝ }
     ensures { λ r. ⌜ r ≡ reading (now (arities .entry)) leaves most (now (list .entry)) ⌝ }
 {
     match check_size(list.len(), most) {
@@ -293,17 +339,17 @@ pub fn shorter(a: usize, b: usize) -> usize
     if a < b { a } else { b }
 }
 
-// Refusals 4, 5 and 6, for a row of n symbols and buffers with `room` places or more.
-pub fn check_sizes(n: usize, room: usize) -> Check
-    ensures { λ r. ⌜ r ≡ sizes n room ⌝ }
+// Refusals 4, 5 and 6, for a row of n symbols and lists with `room` places or more.
+pub fn check_sizes(n: usize, room: usize) -> Keeping
+    ensures { λ r. ⌜ ((whose : Kept → Refusal) → keeps whose r ≡ sizes whose n room) ⌝ }
 {
-    match check_size(n, 16384) {
-        Verdict::Faulty(f) => Check::Refused(Refusal::Row(f)),
+    match check_size(n, ROW_MOST) {
+        Verdict::Faulty(f) => Keeping::Unsound(Kept::Misread(f)),
         Verdict::Whole => {
             if room < n {
-                return Check::Refused(Refusal::BufferShort(n));
+                return Keeping::Unsound(Kept::Short(n));
             }
-            Check::Fine
+            Keeping::Sound
         }
     }
 }

@@ -11,12 +11,14 @@ use lib.ListN.{length, getD, drop, set}
 use lib.Seq.{drop-length}
 use Rattle.rows.specs.Tree.{Forest, count, size, prefix, ends, Ranked}
 use Rattle.rows.specs.Parse.{first, over, parse, table, behind}
-use Rattle.rows.specs.Row.{pick, Accepted, verdict, allowed}
-use Rattle.rows.specs.Refusals.{asRow, symbols, differs, fresh}
+use Rattle.rows.specs.Row.{pick, Accepted, allowed}
+use Rattle.rows.specs.Refusals.{differs, fresh}
 use Rattle.rows.specs.declared.Leaves.the-variants.{Symbols}
-use Rattle.rows.specs.declared.Refusal.the-variants.{Stale}
+use Rattle.rows.specs.declared.Kept.{Kept}
+use Rattle.rows.specs.declared.Kept.the-variants.{Stale}
+use Rattle.rows.specs.declared.Refusal.{Refusal}
 use Rattle.rows.specs.declared.Check.{Check}
-use Rattle.rows.specs.declared.Check.the-variants.{Fine, Refused}
+use Rattle.rows.specs.declared.Check.the-variants.{Refused}
 use Rattle.rows.proofs.Tree.{count-first, ranked-first, ranked-rest}
 use Rattle.rows.proofs.Parse.{prefix-parse}
 use Rattle.rows.proofs.Scan.{drop-more}
@@ -24,7 +26,6 @@ use Rattle.rows.proofs.Accept.{enough, count-parse, lone, whole-of-row}
 use Rattle.rows.proofs.Behind.{behind-over, enough-behind, ends-behind}
 use Rattle.tables.specs.Given.{Sized, Sees}
 use Rattle.tables.specs.declared.Seen.the-variants.{Tree}
-use Rattle.tables.proofs.Given.{row-fine}
 use Rattle.tables.specs.Beside.{Standing, staleFrom, Passed}
 use Rattle.tables.proofs.Standing.{standing-none, Turn, turn-end, turn-count, turn-standing}
 
@@ -38,28 +39,25 @@ passed-none A w t l =
       ranked = subst (λ (x : List ℕ). Ranked A (allowed Symbols A) (parse A x)) nothing tt;
       counted = none .0;
       standing = none .1;
-      told = ap (λ (x : List ℕ). differs (length w) (ends (length w) (parse A x)) (drop (length w) t)) (drop-length w) ∙ simp (le-ltb (length w) (length w) (omega arith));
+      told = λ whose. ap (λ (x : List ℕ). differs whose (length w) (ends (length w) (parse A x)) (drop (length w) t)) (drop-length w) ∙ simp (le-ltb (length w) (length w) (omega arith));
     }
 
-accepted : (A w : List ℕ) → symbols A w ≡ Fine → Accepted A w
-unfolding symbols
-accepted A w e = row-fine (verdict A (allowed Symbols A) 1 0 w) e
-
 -- a number that is no symbol
-pub stop-stray : (A w : List ℕ) (p : ℕ) → p < length w → length A ≤ getD w p 0 → symbols A w ≡ Fine → ⊥
+pub stop-stray : (A w : List ℕ) (p : ℕ) → p < length w → length A ≤ getD w p 0 → Accepted A w → ⊥
 stop-stray A w p below h e =
-    omega (arith, ltb→lt (getD w p 0) (length A) (enough A (allowed Symbols A) w 1 0 (accepted A w e) p below .0))
+    omega (arith, ltb→lt (getD w p 0) (length A) (enough A (allowed Symbols A) w 1 0 e p below .0))
 
 -- fewer trees than the symbol has children
 pub stop-few : (A w : List ℕ) (trees p : ℕ) → p < length w → trees ≡ count (behind A w (p + 1)) → trees < getD A (getD w p 0) 0
-    → symbols A w ≡ Fine → ⊥
+    → Accepted A w → ⊥
 stop-few A w trees p below counted h e =
-    omega (arith, counted, enough-behind A (allowed Symbols A) w 1 0 (accepted A w e) p below)
+    omega (arith, counted, enough-behind A (allowed Symbols A) w 1 0 e p below)
 
 -- the entry at p decides between p and what is told of the entries behind it
-chosen : (b : Bool) (n stale p : ℕ) (c : Check) → p < n → c ≡ staleFrom n stale → pick b c (Refused (Stale p)) ≡ staleFrom n (pick b stale p)
-chosen true n stale p c h e = e
-chosen false n stale p c h e = sym (simp (lt-ltb p n h))
+chosen : (whose : Kept → Refusal) (b : Bool) (n stale p : ℕ) (c : Check) → p < n → c ≡ staleFrom whose n stale
+    → pick b c (Refused (whose (Stale p))) ≡ staleFrom whose n (pick b stale p)
+chosen whose true n stale p c h e = e
+chosen whose false n stale p c h e = sym (simp (lt-ltb p n h))
 
 -- the symbol is read, and its entry is looked at
 pub passed-more : (A w t l : List ℕ) (trees stale p a : ℕ) → Sized w t → length w ≤ length l → p < length w
@@ -79,22 +77,22 @@ passed-more A w t l trees stale p a sized room below c symbol arity deep =
           (one, count-first k g enough-trees, ranked-first A (allowed Symbols A) k g (c .ranked), ranked-rest A (allowed Symbols A) k g (c .ranked));
       counted = turn-count turn;
       standing = turn-standing turn;
-      told =
-          ap₂ (differs p) (ends-behind A w p p below) (drop-more t p (omega (arith, sized .fits)))
-          ∙ chosen (eqb (getD t p 0) (p + 1 + size (first k g))) (length w) stale p (differs (p + 1) (ends (p + 1) g) (drop (p + 1) t)) below (c .told)
-          ∙ ap (λ (e : ℕ). staleFrom (length w) (pick (eqb (getD t p 0) e) stale p)) (sym (turn-end turn));
+      told = λ whose.
+          ap₂ (differs whose p) (ends-behind A w p p below) (drop-more t p (omega (arith, sized .fits)))
+          ∙ chosen whose (eqb (getD t p 0) (p + 1 + size (first k g))) (length w) stale p (differs whose (p + 1) (ends (p + 1) g) (drop (p + 1) t)) below (c .told whose)
+          ∙ ap (λ (e : ℕ). staleFrom whose (length w) (pick (eqb (getD t p 0) e) stale p)) (sym (turn-end turn));
     }
 
 -- the whole row is read: it is one tree's exactly if one tree is there
-pub stop-count : (A w t l : List ℕ) (trees stale : ℕ) → Passed A w t l trees stale 0 → (trees ≡ 1 → ⊥) → symbols A w ≡ Fine → ⊥
+pub stop-count : (A w t l : List ℕ) (trees stale : ℕ) → Passed A w t l trees stale 0 → (trees ≡ 1 → ⊥) → Accepted A w → ⊥
 unfolding behind
-stop-count A w t l trees stale c n e = n (c .counted ∙ count-parse A (allowed Symbols A) w 1 0 (accepted A w e))
+stop-count A w t l trees stale c n e = n (c .counted ∙ count-parse A (allowed Symbols A) w 1 0 e)
 
 pub passed-all : (A w t l : List ℕ) (trees stale : ℕ) → Passed A w t l trees stale 0 → trees ≡ 1 → Sees A w t (Tree stale)
-unfolding behind symbols fresh table
+unfolding behind fresh table
 passed-all A w t l trees stale c one =
     let it = lone (parse A w) (sym (c .counted) ∙ one) in
     let whole : Accepted A w =
     whole-of-row A (allowed Symbols A) w
     (record { tree = it .0; ranked = subst (Ranked A (allowed Symbols A)) (it .1) (c .ranked); reads = ap prefix (sym (it .1)) ∙ prefix-parse A w }) in
-    (ap asRow whole, c .told)
+    (whole, c .told)

@@ -7,10 +7,12 @@ use lib.Dec.{ltb}
 use lib.ListN.{length, getD, drop}
 use Rattle.rows.specs.Tree.{Forest, Forest.none, Forest.grow, count, size, ends, Ranked}
 use Rattle.rows.specs.Parse.{behind}
-use Rattle.rows.specs.Row.{pick, allowed}
-use Rattle.rows.specs.Refusals.{symbols, differs}
+use Rattle.rows.specs.Row.{pick, allowed, Accepted}
+use Rattle.rows.specs.Refusals.{differs}
 use Rattle.rows.specs.declared.Leaves.the-variants.{Symbols}
-use Rattle.rows.specs.declared.Refusal.the-variants.{Stale}
+use Rattle.rows.specs.declared.Kept.{Kept}
+use Rattle.rows.specs.declared.Kept.the-variants.{Stale}
+use Rattle.rows.specs.declared.Refusal.{Refusal}
 use Rattle.rows.specs.declared.Check.{Check}
 use Rattle.rows.specs.declared.Check.the-variants.{Fine, Refused}
 use Rattle.tables.specs.declared.Compared.{Compared}
@@ -22,8 +24,8 @@ Standing l b none = Unit {0}
 Standing l b (grow s cs f) = (getD l (count f) 0 ≡ b + size cs + 1) × Standing l (b + size cs + 1) f
 
 -- what is refused where the first stale entry of a row of n symbols stands at k, nothing where k is past the row
-abbrev pub staleFrom : ℕ → ℕ → Check
-staleFrom n k = pick (ltb k n) (Refused (Stale k)) Fine
+abbrev pub staleFrom : (Kept → Refusal) → ℕ → ℕ → Check
+staleFrom whose n k = pick (ltb k n) (Refused (whose (Stale k))) Fine
 
 -- at place p: the row is read from there on, `trees` stand there side by side, the list l holds their ends, and of the entries
 -- from there on the first that is not the row's stands at `stale`
@@ -31,9 +33,9 @@ pub record Passed (A w t l : List ℕ) (trees stale p : ℕ) : Type 0 where
   pub ranked : Ranked A (allowed Symbols A) (behind A w p)
   pub counted : trees ≡ count (behind A w p)
   pub standing : Standing l p (behind A w p)
-  pub told : differs p (ends p (behind A w p)) (drop p t) ≡ staleFrom (length w) stale
+  pub told : (whose : Kept → Refusal) → differs whose p (ends p (behind A w p)) (drop p t) ≡ staleFrom whose (length w) stale
 
 -- what the symbol at p and its entry add to that: the row is no tree's; or row and table are read from p on
 abbrev pub Compares : List ℕ → List ℕ → List ℕ → ℕ → List ℕ → Compared → Type 0
-Compares A w t p l NoTree = symbols A w ≡ Fine → ⊥
+Compares A w t p l NoTree = Accepted A w → ⊥
 Compares A w t p l (To trees stale) = Passed A w t l trees stale p

@@ -4,17 +4,24 @@ use mathlib.Core.Path.{_≡_}
 use mathlib.Core.List.{List}
 use lib.Dec.{ltb}
 use lib.ListN.{length, take}
+use Rattle.rows.specs.Limits.{rowMost}
 use Rattle.rows.specs.Row.{pick, Accepted}
 use Rattle.rows.specs.Parse.{table}
-use Rattle.rows.specs.Refusals.{symbols, fresh}
-use Rattle.rows.specs.declared.Refusal.the-variants.{Stale}
+use Rattle.rows.specs.Refusals.{fresh}
+use Rattle.rows.specs.declared.Kept.{Kept}
+use Rattle.rows.specs.declared.Kept.the-variants.{Stale}
+use Rattle.rows.specs.declared.Refusal.{Refusal}
 use Rattle.rows.specs.declared.Check.the-variants.{Fine, Refused}
 use Rattle.tables.specs.declared.Seen.{Seen}
 use Rattle.tables.specs.declared.Seen.the-variants.{NoTree, Tree}
 
+-- a row of at most so many symbols is short: the ends of its trees are kept in less room
+abbrev pub few : ℕ
+few = 256
+
 -- a row within the sizes, and a table with room for it
 pub record Sized (w t : List ℕ) : Type 0 where
-  pub most : length w ≤ 16384
+  pub most : length w ≤ rowMost
   pub fits : length w ≤ length t
 
 -- an accepted row with its table: what refusals 1 to 10 leave
@@ -26,11 +33,11 @@ pub record Right (A w t : List ℕ) : Type 0 where
 -- an accepted row, and a table with room for its ends from place `at` on
 pub record Fillable (A w t : List ℕ) (at : ℕ) : Type 0 where
   pub accepted : Accepted A w
-  pub most : at + length w ≤ 16384
+  pub most : at + length w ≤ rowMost
   pub fits : at + length w ≤ length t
 
 -- what the pass over a row and a table sees: the row is no tree's; or it is one's, and the first entry that is not the row's
 -- stands at k, none where k is past the row
 abbrev pub Sees : List ℕ → List ℕ → List ℕ → Seen → Type 0
-Sees A w t NoTree = symbols A w ≡ Fine → ⊥
-Sees A w t (Tree k) = (symbols A w ≡ Fine) × (fresh A w t ≡ pick (ltb k (length w)) (Refused (Stale k)) Fine)
+Sees A w t NoTree = Accepted A w → ⊥
+Sees A w t (Tree k) = Accepted A w × ((whose : Kept → Refusal) → fresh whose A w t ≡ pick (ltb k (length w)) (Refused (whose (Stale k))) Fine)

@@ -8,23 +8,30 @@ ghost use Rattle.rows.specs.Tree.{ends};
 ghost use Rattle.rows.specs.Parse.{parse};
 ghost use Rattle.rows.specs.Row.{pick};
 ghost use Rattle.rows.specs.Buffers.{written};
-ghost use Rattle.rows.specs.Refusals.{_then_, symbols, fresh, kept, given};
-ghost use Rattle.tables.specs.Given.{Sized, Fillable, Sees};
+ghost use Rattle.rows.specs.Limits.{rowMost};
+ghost use Rattle.rows.specs.Programme.{alphabetOf, programme};
+ghost use Rattle.rows.specs.Refusals.{_then_, keeps, symbols, fresh, kept};
+ghost use Rattle.rows.specs.declared.Kept.{Kept};
+ghost use Rattle.rows.specs.declared.Refusal.{Refusal};
+ghost use Rattle.tables.specs.Given.{few, Sized, Fillable, Sees};
 ghost use Rattle.tables.specs.Beside.{Passed, Compares};
-use rows::Check;
-use rows::Refusal;
+use rows::Keeping;
+use rows::Kept;
 
-// Room for as many numbers as the longest row has; and for 256, which is sooner cleared.
-pub fn long_room() -> [u16; 16384]
-    ensures { λ r. ⌜ 16384 ≡ length r ⌝ }
+// A row of at most so many symbols is short.
+pub const FEW: usize = 256;
+
+// Room for as many numbers as the longest row has; and for few, which is sooner cleared.
+pub fn long_room() -> [u16; rows::ROW_MOST]
+    ensures { λ r. ⌜ rowMost ≡ length r ⌝ }
 {
-    [0u16; 16384]
+    [0u16; rows::ROW_MOST]
 }
 
-pub fn short_room() -> [u16; 256]
-    ensures { λ r. ⌜ 256 ≡ length r ⌝ }
+pub fn short_room() -> [u16; FEW]
+    ensures { λ r. ⌜ few ≡ length r ⌝ }
 {
-    [0u16; 256]
+    [0u16; FEW]
 }
 
 // The ends of an accepted row that stands from position `at` on are written from there on, from right to left. `standing`
@@ -51,7 +58,7 @@ pub fn fill_ends(arities: &[u16], row: &[u16], table: &mut [u16], at: usize)
     requires { ⌜ Fillable (now arities) (now row) (now table) at ⌝ }
     ensures { λ r. ⌜ now (table .exit) ≡ written (now (table .entry)) at (ends at (parse (now (arities .entry)) (now (row .entry)))) ⌝ }
 {
-    if row.len() <= 256 {
+    if row.len() <= FEW {
         let mut standing = short_room();
         fill_beside(arities, row, table, at, &mut standing);
     } else {
@@ -158,7 +165,7 @@ fn compare_ends(arities: &[u16], row: &[u16], table: &[u16]) -> Seen
     requires { ⌜ Sized (now row) (now table) ⌝ }
     ensures { λ r. ⌜ Sees (now (arities .entry)) (now (row .entry)) (now (table .entry)) r ⌝ }
 {
-    if row.len() <= 256 {
+    if row.len() <= FEW {
         let mut standing = short_room();
         return compare_beside(arities, row, table, &mut standing);
     }
@@ -167,37 +174,29 @@ fn compare_ends(arities: &[u16], row: &[u16], table: &[u16]) -> Seen
 }
 
 // Refusals 7 to 10. Only where the one pass sees no tree the row is read again, for the first fault.
-pub fn check_right(arities: &[u16], row: &[u16], table: &[u16]) -> Check
+fn check_ends(arities: &[u16], row: &[u16], table: &[u16]) -> Keeping
     requires { ⌜ Sized (now row) (now table) ⌝ }
-    ensures { λ r. ⌜ r ≡ (symbols (now (arities .entry)) (now (row .entry)) then fresh (now (arities .entry)) (now (row .entry)) (now (table .entry))) ⌝ }
+    ensures { λ r. ⌜ ((whose : Kept → Refusal) → keeps whose r ≡ (symbols whose (now (arities .entry)) (now (row .entry)) then fresh whose (now (arities .entry)) (now (row .entry)) (now (table .entry)))) ⌝ }
 {
     match compare_ends(arities, row, table) {
         Seen::NoTree => rows::check_symbols(arities, row),
         Seen::Tree(stale) => {
             if stale < row.len() {
-                return Check::Refused(Refusal::Stale(stale));
+                return Keeping::Unsound(Kept::Stale(stale));
             }
-            Check::Fine
+            Keeping::Sound
         }
     }
 }
 
-// Refusals 4 to 10: a row with its table.
-pub fn check_kept(arities: &[u16], row: &[u16], table: &[u16]) -> Check
-    ensures { λ r. ⌜ r ≡ kept (now (arities .entry)) (now (row .entry)) (now (table .entry)) ⌝ }
+// Refusals 4 to 10: a row, the first n places of its buffer, with what stands beside it.
+pub fn check_kept(arities: &[u16], row: &[u16], table: &[u16], n: usize) -> Keeping
+    ensures { λ r. ⌜ ((whose : Kept → Refusal) → keeps whose r ≡ kept whose (alphabetOf (now (arities .entry))) (programme (now (row .entry)) (now (table .entry))) n) ⌝ }
 {
-    match rows::check_sizes(row.len(), table.len()) {
-        Check::Refused(r) => Check::Refused(r),
-        Check::Fine => check_right(arities, row, table),
-    }
-}
-
-// Refusals 1 to 10: an alphabet, and a row with its table.
-pub fn check_given(arities: &[u16], row: &[u16], table: &[u16]) -> Check
-    ensures { λ r. ⌜ r ≡ given (now (arities .entry)) (now (row .entry)) (now (table .entry)) ⌝ }
-{
-    match rows::check_alphabet(arities) {
-        Check::Refused(r) => Check::Refused(r),
-        Check::Fine => check_kept(arities, row, table),
-    }
+    let room = rows::shorter(row.len(), table.len());
+    let sizes = rows::check_sizes(n, room);
+    let Keeping::Sound = sizes else {
+        return sizes;
+    };
+    check_ends(arities, &row[..n], table)
 }

@@ -18,15 +18,15 @@ enum-told c = search needs
 
 returns : tie.Need-returns
 unfolding sizes
-returns c = simp (sym (c .before .before .before .check-size .ensures) ∙ c .before .enum-told .given .1, lt-ltb _ _ (c .if1 .taken))
+returns c whose = simp (sym (c .before .before .before .check-size .ensures) ∙ c .before .enum-told .given .1, lt-ltb _ _ (c .if1 .taken))
 
 returns-2 : tie.Need-returns-2
 unfolding sizes
-returns-2 c = simp (sym (c .before .before .before .check-size .ensures) ∙ c .before .f .given .1)
+returns-2 c whose = simp (sym (c .before .before .before .check-size .ensures) ∙ c .before .f .given .1)
 
 returns-3 : tie.Need-returns-3
 unfolding sizes
-returns-3 c = simp (sym (c .before .before .before .check-size .ensures) ∙ c .before .enum-told .given .1, le-ltb _ _ (c .if1 .left))
+returns-3 c whose = simp (sym (c .before .before .before .check-size .ensures) ∙ c .before .enum-told .given .1, le-ltb _ _ (c .if1 .left))
 
 pub check-sizes-spec : {M : Type 1} → statement M
 check-sizes-spec =

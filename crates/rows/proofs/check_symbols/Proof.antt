@@ -17,11 +17,11 @@ enum-told c = search needs
 
 returns : tie.Need-returns
 unfolding symbols
-returns c = simp (sym (c .before .before .before .check-row .ensures) ∙ c .before .f .given .1)
+returns c whose = simp (sym (c .before .before .before .check-row .ensures) ∙ c .before .f .given .1)
 
 returns-2 : tie.Need-returns-2
 unfolding symbols
-returns-2 c = simp (sym (c .before .before .check-row .ensures) ∙ c .enum-told .given .1)
+returns-2 c whose = simp (sym (c .before .before .check-row .ensures) ∙ c .enum-told .given .1)
 
 pub check-symbols-spec : {M : Type 1} → statement M
 check-symbols-spec =

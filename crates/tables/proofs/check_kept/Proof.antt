@@ -1,37 +1,75 @@
 -- `tables::check_kept` meets its contract. Sizes that are accepted are what the pass over row and table asks for.
 -- Assumes nothing.
-use mathlib.Core.Path.{sym, _∙_}
-use lib.ListN.{length}
-use Rattle.rows.specs.Refusals.{kept}
-use Rattle.tables.proofs.Given.{sizes-fits}
+use Prim.Native.Nat.{ℕ}
+use mathlib.Core.Path.{_≡_, sym, ap, _∙_}
+use native.Mathlib.Omega.{arith}
+use lib.ListN.{length, take}
+use lib.Seq.{length-take-le}
+use Rattle.rows.specs.Programme.{Programme, programme, room}
+use Rattle.rows.specs.Refusals.{keeps, sizes, kept}
+use Rattle.rows.specs.declared.Kept.{Kept}
+use Rattle.rows.specs.declared.Refusal.{Refusal}
+use Rattle.rows.specs.declared.Refusal.the-variants.{Row}
+use Rattle.rows.specs.declared.Keeping.the-variants.{Sound}
+use Rattle.rows.proofs.Passing.{sizes-fits}
+use Rattle.tables.specs.Given.{Sized}
 use borrow.Author.Needs.{needs}
 use Rattle.tables.proofs.check_kept.Statement.{statement}
 use Rattle.tables.proofs.check_kept.Tie as tie
 
+-- what the check of the sizes says of the two lists, and what it leaves where it is sound
+module _ (c : tie.After-check-sizes) where
+  abbrev n : ℕ
+  n = c .before .before .before .before .before .args .n
+
+  abbrev P : Programme
+  P = programme (c .before .before .before .before .before .args .row .now) (c .before .before .before .before .before .args .table .now)
+
+  told : (whose : Kept → Refusal) → sizes whose n (room P) ≡ keeps whose (c .check-sizes .result)
+  told whose = ap (sizes whose n) (sym (c .before .shorter .ensures)) ∙ sym (c .check-sizes .ensures whose)
+
+  sized : c .check-sizes .result ≡ Sound → (n ≡ length (take n (P .row))) × Sized (take n (P .row)) (P .table)
+  sized e =
+      let f = sizes-fits Row n (room P) (told Row ∙ ap (keeps Row) e) in
+      let long = length-take-le n (P .row) (omega (arith, f .room)) in
+      (sym long, record { most = omega (arith, f .most); fits = omega (arith, f .room) })
+
+shorter-requires : tie.Need-shorter-requires
+shorter-requires c κs = search needs
+
 check-sizes-requires : tie.Need-check-sizes-requires
 check-sizes-requires c κs = search needs
-
-enum-known-r : tie.Need-enum-known-r
-enum-known-r c = search needs
 
 enum-told : tie.Need-enum-told
 enum-told c = search needs
 
-check-right-requires : tie.Need-check-right-requires
-check-right-requires c κs =
-    let a = c .before .before .before .before .before .before .args in
-    let f = sizes-fits (length (a .row .now)) (length (a .table .now)) (sym (c .before .before .check-sizes .ensures) ∙ c .enum-told .given .1) in
-    record { most = f .most; fits = f .room }
+enum-told-2 : tie.Need-enum-told-2
+enum-told-2 c = search needs
 
 returns : tie.Need-returns
 unfolding kept
-returns c = simp (sym (c .before .before .before .check-sizes .ensures) ∙ c .before .r .given .1)
+returns c whose = simp (c .enum-told2 .given .1, told (c .before .before) whose ∙ ap (keeps whose) (c .enum-told2 .given .1))
+
+slice-aggregate-check-ends : tie.Need-slice-aggregate-check-ends
+slice-aggregate-check-ends c = sized (c .before .before .before) (c .before .enum-told .given .1) .0
+
+check-ends-requires : tie.Need-check-ends-requires
+check-ends-requires c κs = sized (c .before .before .before) (c .before .enum-told .given .1) .1
 
 returns-2 : tie.Need-returns-2
 unfolding kept
-returns-2 c = c .check-right .ensures ∙ simp (sym (c .before .before .before .check-sizes .ensures) ∙ c .before .enum-told .given .1)
+returns-2 c whose =
+    c .check-ends .ensures whose ∙ simp (told (c .before .before .before .before) whose ∙ ap (keeps whose) (c .before .before .enum-told .given .1))
 
 pub check-kept-spec : {M : Type 1} → statement M
 check-kept-spec =
     tie.close
-    (tie.spec check-sizes-requires enum-known-r enum-told check-right-requires returns returns-2)
+    (tie.spec
+    shorter-requires
+    check-sizes-requires
+    enum-told
+    enum-told-2
+    returns
+    slice-aggregate-check-ends
+    check-ends-requires
+    returns-2)

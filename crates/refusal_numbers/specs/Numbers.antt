@@ -1,0 +1,100 @@
+-- The number and the place of each refusal.
+use Prim.Native.Nat.{ℕ, _+_}
+use Rattle.rows.specs.declared.Fault.{Fault}
+use Rattle.rows.specs.declared.Fault.the-variants.{Empty, Long, Stray, Early, Extra}
+use Rattle.rows.specs.declared.Arities.{Arities as Alphabet}
+use Rattle.rows.specs.declared.Arities.the-variants.{Count, Over, NoLeaf}
+use Rattle.rows.specs.declared.Kept.{Kept}
+use Rattle.rows.specs.declared.Kept.the-variants.{Misread, Short, Stale}
+use Rattle.rows.specs.declared.Text.{Text}
+use Rattle.rows.specs.declared.Text.the-variants.{Line, Bytes}
+use Rattle.rows.specs.declared.Refusal.{Refusal}
+use Rattle.rows.specs.declared.Refusal.the-variants.{Arities, Row, OnRecord, Pattern, Replacement, Position, TooLong, OutputShort, Input}
+
+-- a fault of an alphabet
+abbrev pub alphabetNumber : Alphabet → ℕ
+alphabetNumber (Count n) = 1
+alphabetNumber (Over s) = 2
+alphabetNumber NoLeaf = 3
+
+abbrev pub alphabetPlace : Alphabet → ℕ
+alphabetPlace (Count n) = n
+alphabetPlace (Over s) = s
+alphabetPlace NoLeaf = 0
+
+-- a fault in the reading of a row; of a pattern; of a replacement
+abbrev pub rowNumber : Fault → ℕ
+rowNumber Empty = 4
+rowNumber (Long n) = 5
+rowNumber (Stray p) = 7
+rowNumber (Early n) = 8
+rowNumber (Extra p) = 9
+
+abbrev pub patternNumber : Fault → ℕ
+patternNumber Empty = 11
+patternNumber (Long n) = 12
+patternNumber (Stray p) = 13
+patternNumber (Early n) = 14
+patternNumber (Extra p) = 15
+
+abbrev pub replacementNumber : Fault → ℕ
+replacementNumber Empty = 24
+replacementNumber (Long n) = 25
+replacementNumber (Stray p) = 27
+replacementNumber (Early n) = 28
+replacementNumber (Extra p) = 29
+
+abbrev pub faultPlace : Fault → ℕ
+faultPlace Empty = 0
+faultPlace (Long n) = n
+faultPlace (Stray p) = p
+faultPlace (Early n) = n
+faultPlace (Extra p) = p
+
+-- a fault of a row with what is kept beside it
+abbrev pub keptNumber : Kept → ℕ
+keptNumber (Misread f) = rowNumber f
+keptNumber (Short n) = 6
+keptNumber (Stale p) = 10
+
+-- of the row on record: 40 more
+unfoldable pub onRecordNumber : Kept → ℕ
+onRecordNumber k = 40 + keptNumber k
+
+abbrev pub keptPlace : Kept → ℕ
+keptPlace (Misread f) = faultPlace f
+keptPlace (Short n) = n
+keptPlace (Stale p) = p
+
+-- a fault in the input of a program
+abbrev pub textNumber : Text → ℕ
+textNumber (Line k) = 60
+textNumber Bytes = 61
+
+abbrev pub textPlace : Text → ℕ
+textPlace (Line k) = k
+textPlace Bytes = 65536
+
+-- the number of a refusal
+abbrev pub number : Refusal → ℕ
+number (Arities f) = alphabetNumber f
+number (Row k) = keptNumber k
+number (OnRecord k) = onRecordNumber k
+number (Pattern f) = patternNumber f
+number (Replacement f) = replacementNumber f
+number (Position p) = 17
+number (TooLong n) = 18
+number (OutputShort n) = 19
+number (Input f) = textNumber f
+
+-- its place
+abbrev pub place : Refusal → ℕ
+place (Arities f) = alphabetPlace f
+place (Row k) = keptPlace k
+place (OnRecord k) = keptPlace k
+place (Pattern f) = faultPlace f
+place (Replacement f) = faultPlace f
+place (Position p) = p
+place (TooLong n) = n
+place (OutputShort n) = n
+place (Input f) = textPlace f

@@ -1,0 +1,34 @@
+-- The sizes within which everything is accepted, and the numbers with a meaning of their own. Each stands here once, and in
+-- crates/rows/src/lib.rt.
+use Prim.Native.Nat.{ℕ}
+
+-- the most symbols of an alphabet, and the largest arity
+abbrev pub alphabetMost : ℕ
+alphabetMost = 1024
+
+abbrev pub arityMost : ℕ
+arityMost = 15
+
+-- the most symbols of a row or a replacement, and the most numbers of a pattern
+abbrev pub rowMost : ℕ
+rowMost = 16384
+
+abbrev pub patternMost : ℕ
+patternMost = 256
+
+-- the blank S; the variable X0, and how many variables there are
+abbrev pub blank : ℕ
+blank = 65535
+
+abbrev pub firstVariable : ℕ
+firstVariable = 65280
+
+abbrev pub variables : ℕ
+variables = 16
+
+-- what freed places hold: in the row, and in what stands beside it
+abbrev pub freedSymbol : ℕ
+freedSymbol = 65535
+
+abbrev pub freedEntry : ℕ
+freedEntry = 0
