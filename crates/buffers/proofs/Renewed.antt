@@ -8,7 +8,8 @@ use lib.ListN.{length, take, drop, getD, getD-replicate, List·getD-append, repl
 use lib.Seq.{getD-append-add, take-take, take-add, take-at, drop-at, length-take-le}
 use Rattle.rows.specs.Buffers.{written}
 use Rattle.buffers.specs.Renewed.{renewed, spliced}
-use Rattle.buffers.proofs.Written.{length-written, written-left, written-right}
+use Rattle.buffers.proofs.Written.{written-left, written-right}
+use Rattle.rows.proofs.Buffers.{length-written}
 
 pub drop-take : (e n : ℕ) (b : List ℕ) → e ≤ n → n ≤ length b → drop e (take n b) ≡ take (n - e) (drop e b)
 drop-take e n b h r =

@@ -10,14 +10,7 @@ use native.Mathlib.Omega.{arith}
 use lib.ListN.{length, take, drop, set, getD, length-append, length-take, length-drop, take-append-drop, List·getD-append, drop-of-length-le}
 use lib.Seq.{take-all, take-take, drop-drop, take-at, drop-at, length-take-le, take-suc, drop-cons, set-at, set-getD, getD-append-add, take-append-le, getD-take, getD-drop}
 use Rattle.rows.specs.Buffers.{written}
-
-pub length-written : (b : List ℕ) (at : ℕ) (v : List ℕ) → at + length v ≤ length b → length (written b at v) ≡ length b
-unfolding written
-length-written b at v h = simp (length-append, length-take, length-drop) (omega arith)
-
-pub written-nil : (b : List ℕ) (at : ℕ) → written b at [] ≡ b
-unfolding written
-written-nil b at = rw (add-zero at, take-append-drop at b)
+use Rattle.rows.proofs.Buffers.{length-written, written-nil, written-snoc}
 
 -- a part written at its own place
 pub written-still : (b : List ℕ) (at len : ℕ) → at + len ≤ length b → written b at (take len (drop at b)) ≡ b
@@ -26,15 +19,7 @@ written-still b at len h =
     let l : len ≤ length (drop at b) = simp length-drop (omega arith) in
     rw (length-take-le len (drop at b) l, ← drop-drop len at b, take-append-drop len (drop at b), take-append-drop at b)
 
--- one number more at the end of what is written, and at its front
-written-snoc : (b : List ℕ) (at : ℕ) (v : List ℕ) (x : ℕ) → at + length v < length b
-    → set (written b at v) (at + length v) x ≡ written b at (v ++ (x ∷ []))
-unfolding written
-written-snoc b at v x h =
-    let l : length (take at b ++ v) ≡ at + length v = simp (length-append, length-take) (omega arith) in
-    let s : length (v ++ (x ∷ [])) ≡ suc (length v) = simp length-append (omega arith) in
-    rw (drop-cons b (at + length v) 0 h, ← append-assoc (take at b) v, set-at (take at b ++ v) _ _ x _ l, s, add-suc) (simp append-assoc)
-
+-- one number more at the front of what is written
 written-cons : (b : List ℕ) (k : ℕ) (v : List ℕ) (x : ℕ) → k < length b → set (written b (suc k) v) k x ≡ written b k (x ∷ v)
 unfolding written
 written-cons b k v x h =

@@ -9,7 +9,7 @@ use Rattle.rows.specs.Parse.{table as tableOf}
 use Rattle.rows.specs.Row.{pick}
 use Rattle.rows.specs.Buffers.{written, after}
 use Rattle.rows.specs.Refusals.{_then_, alphabet, kept}
-use Rattle.numbers.specs.Numbers.{number, place}
+use Rattle.refusal_numbers.specs.Numbers.{number, place}
 use Rattle.rows.specs.declared.Check.{Check}
 use Rattle.rows.specs.declared.Check.the-variants.{Fine, Refused}
 use Rattle.patterns.specs.Answers.{spans}

@@ -10,7 +10,7 @@ use Rattle.rows.specs.Refusals.{_then_, alphabet, sizes, symbols}
 use Rattle.rows.specs.declared.Leaves.the-variants.{Symbols}
 use Rattle.rows.specs.declared.Check.the-variants.{Fine}
 use Rattle.tables.specs.Given.{Fillable}
-use Rattle.tables.proofs.Given.{both-fine, row-fine, sizes-fits}
+use Rattle.rows.proofs.Passing.{both-fine, row-fine, sizes-fits}
 use Rattle.checks.specs.Checks.{buildCheck}
 
 pub build-fillable : (A w t : List ℕ) → buildCheck A w (length t) ≡ Fine → Fillable A w t 0

@@ -15,7 +15,8 @@ use Rattle.rows.specs.declared.Refusal.the-variants.{Position, AlphabetSize, Ou
 use Rattle.rows.specs.declared.Check.{Check}
 use Rattle.rows.specs.declared.Check.the-variants.{Fine, Refused}
 use Rattle.tables.specs.Given.{Right}
-use Rattle.tables.proofs.Given.{both-fine, given-right, row-fine}
+use Rattle.tables.proofs.Given.{given-right}
+use Rattle.rows.proofs.Passing.{both-fine, row-fine}
 use Rattle.checks.specs.Checks.{subtreeCheck, searchCheck, variablesCheck, ofRecord, newerCheck, rowCheck, plainCheck}
 use Rattle.rows.specs.declared.Leaves.the-variants.{Blanks, Symbols}
 use Rattle.rows.specs.declared.Verdict.{Verdict}

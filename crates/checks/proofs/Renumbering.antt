@@ -9,7 +9,7 @@ use lib.Dec.{ltb, eqb}
 use lib.ListN.{length}
 use Rattle.rows.specs.Parse.{table}
 use Rattle.rows.specs.Row.{pick, sized, verdict, allowed}
-use Rattle.numbers.specs.Numbers.{number, place}
+use Rattle.refusal_numbers.specs.Numbers.{number, place}
 use Rattle.rows.specs.Refusals.{_then_, asRow, sizes, symbols, differs, fresh, kept}
 use Rattle.rows.specs.declared.Leaves.the-variants.{Symbols}
 use Rattle.rows.specs.declared.Fault.{Fault}
@@ -21,7 +21,7 @@ use Rattle.rows.specs.declared.Refusal.the-variants.{Row, BufferShort, Stale}
 use Rattle.rows.specs.declared.Check.{Check}
 use Rattle.rows.specs.declared.Check.the-variants.{Fine, Refused}
 use Rattle.checks.specs.Checks.{onRecord}
-use Rattle.checks.proofs.Passing.{clash}
+use Rattle.rows.proofs.Passing.{clash}
 
 -- THE NUMBERS OF THE ROW ON RECORD. A row with its table is refused by 4 to 10 only.
 abbrev pub Renumbered : Refusal → Type 0

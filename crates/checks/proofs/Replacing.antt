@@ -17,14 +17,14 @@ use Rattle.rows.specs.declared.Check.{Check}
 use Rattle.rows.specs.declared.Check.the-variants.{Fine}
 use Rattle.rows.proofs.Scan.{sized-fits}
 use Rattle.tables.specs.Given.{Sized, Right}
-use Rattle.tables.proofs.Given.{both-fine, sizes-fits, check-right, right-bounds}
+use Rattle.tables.proofs.Given.{check-right, right-bounds}
+use Rattle.rows.proofs.Passing.{both-fine, sizes-fits, position-fine}
 use Rattle.edits.specs.Put.{changed}
 use Rattle.edits.specs.Replace.{Replaceable}
 use Rattle.edits.proofs.Put.{below}
 use Rattle.edits.proofs.Place.{position-past, position-in, grown-fits, grown-fine}
 use Rattle.edits.proofs.Replace.{new-length}
 use Rattle.checks.specs.Checks.{heldCheck, replaceCheck}
-use Rattle.checks.proofs.Passing.{position-fine}
 
 -- a row that is the first n places of its buffer, with its table: what refusals 1 to 10 leave
 pub record Held (A row t : List ℕ) (n : ℕ) : Type 0 where

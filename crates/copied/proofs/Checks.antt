@@ -14,10 +14,9 @@ use Rattle.rows.specs.declared.Check.the-variants.{Fine, Refused}
 use Rattle.rows.specs.declared.Fault.the-variants.{Long}
 use Rattle.rows.specs.declared.Refusal.{Refusal}
 use Rattle.rows.specs.declared.Refusal.the-variants.{Pattern, Replacement}
-use Rattle.tables.proofs.Given.{both-fine, sizes-fits}
+use Rattle.rows.proofs.Passing.{both-fine, sizes-fits, few}
 use Rattle.edits.specs.Put.{changed}
 use Rattle.checks.specs.Checks.{searchCheck, heldCheck, replaceCheck}
-use Rattle.checks.proofs.Passing.{few}
 use Rattle.lent.specs.Answer.{refused, refusedBy}
 use Rattle.lent.proofs.Checks.{then-assoc}
 use Rattle.copied.specs.Copies.{Copyable}

@@ -18,7 +18,7 @@ use Rattle.rows.specs.declared.Check.the-variants.{Fine, Refused}
 use Rattle.rows.specs.declared.Refusal.the-variants.{Stale, TooLong}
 use Rattle.rows.proofs.Entry.{length-table}
 use Rattle.rows.proofs.Tree.{length-prefix, length-ends}
-use Rattle.tables.proofs.Given.{both-fine}
+use Rattle.rows.proofs.Passing.{both-fine}
 use Rattle.buffers.specs.Renewed.{renewed}
 use Rattle.buffers.proofs.Renewed.{length-renewed}
 use Rattle.edits.specs.Put.{changed}

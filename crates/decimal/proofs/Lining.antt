@@ -15,7 +15,7 @@ use Rattle.decimal.specs.Numeral.{numeral}
 use Rattle.decimal.specs.Lines.{following, line, Small, endsNumber, Stands, HasLine, LineRead, Room}
 use Rattle.decimal.specs.declared.Cursor.{Cursor}
 use Rattle.decimal.proofs.Numerals.{numeral-some}
-use Rattle.buffers.proofs.Written.{length-written, written-nil}
+use Rattle.rows.proofs.Buffers.{length-written, written-nil}
 use Rattle.decimal.proofs.Writing.{written-snoc}
 use Rattle.decimal.proofs.Runs.{numeral-alone}
 use Rattle.decimal.proofs.Reading.{inside, front, begins}

@@ -9,7 +9,8 @@ use lib.ListN.{length, take, drop, getD, length-map, length-take, length-drop}
 use lib.Seq.{take-take, getD-take, getD-drop}
 use Rattle.rows.specs.Buffers.{written}
 use Rattle.buffers.specs.Shift.{shifted, Shiftable}
-use Rattle.buffers.proofs.Written.{length-written, getD-written, drop-written, take-written, written-over, written-same, getD-map}
+use Rattle.buffers.proofs.Written.{getD-written, drop-written, take-written, written-over, written-same, getD-map}
+use Rattle.rows.proofs.Buffers.{length-written}
 use Rattle.buffers.proofs.Renewed.{drop-take}
 use Rattle.edits.specs.Moved.{moved, splicedEnds}
 use Rattle.edits.specs.Given.{Movable}

@@ -7,7 +7,7 @@ use lib.ListN.{length}
 use Rattle.rows.specs.Refusals.{_then_, alphabet, sizes, symbols}
 use Rattle.rows.specs.declared.Check.{Check}
 use Rattle.rows.specs.declared.Check.the-variants.{Fine, Refused}
-use Rattle.tables.proofs.Given.{both-fine, sizes-fits}
+use Rattle.rows.proofs.Passing.{both-fine, sizes-fits}
 use Rattle.checks.specs.Checks.{buildCheck}
 
 pub then-assoc : (a b c : Check) → (a then b) then c ≡ a then b then c

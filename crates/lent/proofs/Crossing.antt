@@ -2,7 +2,8 @@
 -- Assumes nothing.
 use Prim.Native.Nat.{ℕ, _≤_, _<_}
 use native.Mathlib.Omega.{arith}
-use Rattle.numbers.specs.Numbers.{number, rowNumber, onRecordNumber, patternNumber, replacementNumber}
+use Rattle.refusal_numbers.specs.Numbers.{rowNumber, onRecordNumber, patternNumber, replacementNumber}
+use Rattle.refusal_numbers.specs.Numbers.{number}
 use Rattle.rows.specs.declared.Fault.{Fault}
 use Rattle.rows.specs.declared.Fault.the-variants.{Empty, Long, Stray, Early, Extra}
 use Rattle.rows.specs.declared.Refusal.{Refusal}

@@ -1,7 +1,7 @@
 -- How answers cross to C: the numbers of the answer's struct, for each answer of the Rattle calls.
 use Prim.Native.Nat.{ℕ}
 use lib.IntN.{ℤ, pos}
-use Rattle.numbers.specs.Numbers.{number, place}
+use Rattle.refusal_numbers.specs.Numbers.{number, place}
 use Rattle.rows.specs.declared.Refusal.{Refusal}
 use Rattle.rows.specs.declared.Check.{Check}
 use Rattle.rows.specs.declared.Check.the-variants.{Fine, Refused}

@@ -25,9 +25,9 @@ pub fn refusal_of(refusal: Refusal) -> Answer
     ensures { λ r. ⌜ r ≡ refused refusal ⌝ }
 {
     Answer {
-        refusal: numbers::number_of(refusal) as u32,
+        refusal: refusal_numbers::number_of(refusal) as u32,
         change: 0,
-        place: numbers::place_of(refusal) as u64,
+        place: refusal_numbers::place_of(refusal) as u64,
         count: 0,
     }
 }

@@ -19,7 +19,7 @@ use Rattle.rows.specs.declared.Check.{Check}
 use Rattle.rows.specs.declared.Check.the-variants.{Fine, Refused}
 use Rattle.rows.proofs.Entry.{length-table}
 use Rattle.tables.proofs.Differ.{differs-same}
-use Rattle.buffers.proofs.Written.{length-written}
+use Rattle.rows.proofs.Buffers.{length-written}
 use Rattle.checks.specs.Checks.{buildCheck, rowCheck, plainCheck, searchCheck}
 use Rattle.sparrowhem.specs.Build.{Built}
 

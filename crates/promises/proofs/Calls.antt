@@ -16,10 +16,10 @@ use Rattle.rows.specs.declared.Leaves.the-variants.{Symbols}
 use Rattle.rows.specs.declared.Check.{Check}
 use Rattle.rows.specs.declared.Check.the-variants.{Fine}
 use Rattle.rows.proofs.Accept.{whole-of-row, row-of-whole}
-use Rattle.rows.proofs.Buffers.{written-front}
+use Rattle.rows.proofs.Buffers.{written-front, written-behind}
 use Rattle.rows.proofs.Entry.{length-table}
 use Rattle.rows.proofs.Promises.{table-of-row}
-use Rattle.tables.proofs.Given.{row-fine}
+use Rattle.rows.proofs.Passing.{row-fine}
 use Rattle.checks.specs.Checks.{buildCheck, ofRecord, newerCheck, findCheck}
 use Rattle.promises.specs.Calls.{Build-settled, Build-refused, Build-accepts, Build-writes, Subtree-part, Subtree-empty, Subtree-place-settled, Find-settled, Find-refused, Find-lists, Find-short, Find-computed, Variables-settled, Variables-matched, Variables-unmatched, Variables-refused, Variables-computed, Newest-settled, Newer-part, Newer-settled, Newer-place-settled, Newer-lies, Newer-empty, Newer-refused, Newer-numbers}
 use Rattle.sparrowhem.specs.Parts.{subtreePart, subtreeAnswer, LiesAt, NewestSays, newestPart, NewestLies}
@@ -36,7 +36,7 @@ use Rattle.patterns.proofs.Promises.{walk-lists, spans-long}
 use Rattle.sparrowhem.specs.Search.{found}
 use Rattle.sparrowhem.specs.declared.search.Found.the-variants.{Matches, Refused as FindRefused}
 use Rattle.sparrowhem.specs.declared.search.Bound.the-variants.{Matched, Unmatched, Refused as BindRefused}
-use Rattle.sparrowhem.proofs.Searching.{written-behind, finds-list, finds-matches, finds-kept, binds-walk, binds-tells}
+use Rattle.sparrowhem.proofs.Searching.{finds-list, finds-matches, finds-kept, binds-walk, binds-tells}
 use Rattle.checks.proofs.Passing.{search-checked}
 use native.Mathlib.Decide.{decLt}
 use borrow.Author.Tests.{lt-ltb, le-ltb}

@@ -28,7 +28,8 @@ use Rattle.rows.proofs.Buffers.{written-front}
 use Rattle.rows.proofs.Entry.{length-table}
 use Rattle.rows.proofs.Parse.{size-parse}
 use Rattle.rows.proofs.Promises.{reads-rows, tree-of-row}
-use Rattle.tables.proofs.Given.{both-fine, row-fine, sizes-fits, given-right, right-entry}
+use Rattle.tables.proofs.Given.{given-right, right-entry}
+use Rattle.rows.proofs.Passing.{both-fine, row-fine, sizes-fits, clash, position-fine, pattern-fine}
 use Rattle.patterns.specs.Searchable.{Checked}
 use Rattle.patterns.specs.Walk.{comesThrough, listOf}
 use Rattle.patterns.specs.Answers.{MatchesAt, facing, spans}
@@ -56,7 +57,7 @@ use Rattle.sparrowhem.specs.declared.parts.Newest.{Newest}
 use Rattle.sparrowhem.specs.declared.parts.Newest.the-variants.{Corrected, OnRecord, Nowhere, Refused as NewestRefused}
 use Rattle.sparrowhem.specs.declared.matcher.Fits.{Fits}
 use Rattle.sparrowhem.specs.declared.matcher.Fits.the-variants.{Yes, No, Refused as PlainRefused}
-use Rattle.checks.proofs.Passing.{clash, position-fine, pattern-fine, search-checked, newer-checked}
+use Rattle.checks.proofs.Passing.{search-checked, newer-checked}
 use Rattle.sparrowhem.proofs.Searching.{finds-matches}
 use Rattle.checks.proofs.Replacing.{held-fine, replacement-fine, replacement-whole, replace-held, replace-able}
 use Rattle.promises.specs.Runs.{edits, Holds}

@@ -21,13 +21,12 @@ use Rattle.rows.specs.declared.Check.the-variants.{Fine, Refused}
 use Rattle.rows.proofs.Tree.{length-prefix, length-ends}
 use Rattle.rows.proofs.Parse.{prefix-parse, size-parse, parse-prefix}
 use Rattle.rows.proofs.Accept.{verdict-forest, count-parse, ranked-parse, row-of-whole, parse-whole}
-use Rattle.rows.proofs.Buffers.{written-front}
+use Rattle.rows.proofs.Buffers.{written-front, length-written}
 use Rattle.rows.proofs.Scan.{verdict-whole}
 use Rattle.rows.proofs.Entry.{length-table, same-end}
-use Rattle.tables.proofs.Given.{both-fine, sizes-fits}
+use Rattle.rows.proofs.Passing.{both-fine, sizes-fits}
 use Rattle.tables.proofs.Differ.{differs-same}
 use Rattle.buffers.specs.Renewed.{renewed}
-use Rattle.buffers.proofs.Written.{length-written}
 use Rattle.buffers.proofs.Renewed.{take-renewed, length-renewed}
 use Rattle.edits.specs.Put.{changed}
 use Rattle.edits.proofs.Put.{put-count, put-ranked, put-below, below}

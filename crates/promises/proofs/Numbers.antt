@@ -26,7 +26,7 @@ use Rattle.rows.proofs.Scan.{sized-fits}
 use Rattle.rows.proofs.Promises.{reads-rows, checksum-rule}
 use Rattle.edits.proofs.Place.{grown-over, grown-fits}
 use Rattle.edits.proofs.Put.{below}
-use Rattle.checks.proofs.Passing.{clash}
+use Rattle.rows.proofs.Passing.{clash}
 use Rattle.promises.specs.Numbers.{FirstOver, Unfinished, Numbers}
 use Rattle.rows.proofs.Entry.{same-end}
 

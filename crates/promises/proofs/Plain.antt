@@ -10,13 +10,13 @@ use borrow.Author.Tests.{lt-ltb}
 use lib.Dec.{ltb}
 use lib.ListN.{length, take}
 use Rattle.rows.specs.Row.{pick}
-use Rattle.numbers.specs.Numbers.{number}
+use Rattle.refusal_numbers.specs.Numbers.{number}
 use Rattle.rows.specs.Refusals.{_then_, pattern, position, output}
 use Rattle.rows.specs.declared.Refusal.{Refusal}
 use Rattle.rows.specs.declared.Refusal.the-variants.{Position, OutputShort}
 use Rattle.rows.specs.declared.Check.{Check}
 use Rattle.rows.specs.declared.Check.the-variants.{Fine, Refused}
-use Rattle.tables.proofs.Given.{both-fine}
+use Rattle.rows.proofs.Passing.{both-fine, clash, position-fine}
 use Rattle.checks.specs.Checks.{rowCheck, plainCheck, searchCheck, findCheck}
 use Rattle.sparrowhem.specs.Plain.{PlainSays}
 use Rattle.promises.specs.Plain.{Plain-settled, Plain-yes, Both, Plain-finds, Plain-refuses}
@@ -25,7 +25,6 @@ use Rattle.sparrowhem.specs.declared.matcher.Fits.{Fits}
 use Rattle.sparrowhem.specs.declared.matcher.Fits.the-variants.{Yes, No, Refused as PlainRefused}
 use Rattle.sparrowhem.specs.declared.search.Found.{Found}
 use Rattle.sparrowhem.specs.declared.search.Found.the-variants.{Matches, Refused as FindRefused}
-use Rattle.checks.proofs.Passing.{clash, position-fine}
 use Rattle.sparrowhem.proofs.Searching.{finds-matches}
 use Rattle.promises.proofs.Agreeing.{search-left, plain-left}
 use Rattle.promises.proofs.Calls.{find-lists}

@@ -9,7 +9,7 @@ use Rattle.rows.specs.Tree.{IsRow, single, ends}
 use Rattle.rows.specs.Parse.{table}
 use Rattle.rows.specs.Row.{pick, symbol}
 use Rattle.rows.specs.Buffers.{written, after}
-use Rattle.numbers.specs.Numbers.{number, place}
+use Rattle.refusal_numbers.specs.Numbers.{number, place}
 use Rattle.rows.specs.Refusals.{alphabet, sizes, kept, given}
 use Rattle.rows.specs.declared.Refusal.{Refusal}
 use Rattle.rows.specs.declared.Refusal.the-variants.{OutputShort}

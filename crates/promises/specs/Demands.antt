@@ -21,7 +21,7 @@ use lib.IntN.{ℤ}
 use Rattle.rows.specs.Tree.{Forest, IsRow, single, size, prefix, subtreeAt}
 use Rattle.rows.specs.Parse.{table}
 use Rattle.rows.specs.Row.{pick, symbol, allowed, sized}
-use Rattle.numbers.specs.Numbers.{number, place}
+use Rattle.refusal_numbers.specs.Numbers.{number, place}
 use Rattle.rows.specs.Refusals.{_then_, alphabet, asRow, sizes, symbols, fresh, given, pattern, replacement, position, grown, output}
 use Rattle.rows.specs.declared.Leaves.the-variants.{Blanks}
 use Rattle.rows.specs.declared.Refusal.{Refusal}

@@ -5,7 +5,7 @@ use mathlib.Core.Path.{_≡_}
 use mathlib.Core.List.{List, List·Memᴰ}
 use mathlib.Core.Logic.{_↔_}
 use lib.ListN.{length, take}
-use Rattle.numbers.specs.Numbers.{number}
+use Rattle.refusal_numbers.specs.Numbers.{number}
 use Rattle.rows.specs.declared.Refusal.{Refusal}
 use Rattle.rows.specs.declared.Refusal.the-variants.{OutputShort}
 use Rattle.rows.specs.declared.Check.{Check}

@@ -4,7 +4,7 @@ use mathlib.Core.List.{List, [], _∷_, _++_}
 use lib.Dec.{eqb}
 use lib.ListN.{getD}
 use Rattle.rows.specs.Row.{pick}
-use Rattle.numbers.specs.Numbers.{number, place}
+use Rattle.refusal_numbers.specs.Numbers.{number, place}
 use Rattle.rows.specs.declared.Refusal.{Refusal}
 use Rattle.decimal.specs.Numeral.{numeral}
 

@@ -11,8 +11,8 @@ pub fn print_refusal(out: &mut [u8], refusal: Refusal) -> usize
     ensures { λ r. ⌜ Printed (now (out .entry)) 0 (refusalText refusal) r (now (out .exit)) × (r ≤ 64) ⌝ }
 {
     let number = decimal::put_bytes(out, 0, b"refused");
-    let place = decimal::put_marked(out, number, b' ', numbers::number_of(refusal));
-    let end = decimal::put_marked(out, place, b' ', numbers::place_of(refusal));
+    let place = decimal::put_marked(out, number, b' ', refusal_numbers::number_of(refusal));
+    let end = decimal::put_marked(out, place, b' ', refusal_numbers::place_of(refusal));
     decimal::put_byte(out, end, b'\n')
 }
 

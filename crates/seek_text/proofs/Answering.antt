@@ -9,7 +9,7 @@ use lib.Seq.{take-at, drop-at, drop-drop}
 use Rattle.rows.specs.Buffers.{written}
 use Rattle.rows.specs.declared.Refusal.{Refusal}
 use Rattle.rows.specs.declared.Check.the-variants as check
-use Rattle.buffers.proofs.Written.{length-written}
+use Rattle.rows.proofs.Buffers.{length-written}
 use Rattle.seek_print.specs.Print.{refusalText}
 use Rattle.seek_text.specs.Input.{Says, ListsRead}
 use Rattle.seek_text.specs.Search.{seekCheck, MatchesFound, Prints, Prints.lists-refused, AnswerFound}

@@ -18,14 +18,13 @@ use Rattle.rows.specs.declared.Refusal.{Refusal}
 use Rattle.rows.specs.declared.Refusal.the-variants.{BufferShort}
 use Rattle.rows.specs.declared.Check.{Check}
 use Rattle.rows.specs.declared.Check.the-variants.{Fine, Refused}
-use Rattle.rows.proofs.Buffers.{written-front}
+use Rattle.rows.proofs.Buffers.{written-front, length-written}
 use Rattle.rows.proofs.Entry.{length-table}
 use Rattle.tables.proofs.Differ.{differs-same}
-use Rattle.tables.proofs.Given.{both-fine, sizes-fits}
+use Rattle.rows.proofs.Passing.{both-fine, sizes-fits}
 use Rattle.patterns.specs.Answers.{Listed}
 use Rattle.patterns.specs.Searchable.{Checked}
 use Rattle.searches.proofs.Counting.{listed-length}
-use Rattle.buffers.proofs.Written.{length-written}
 use Rattle.checks.specs.Checks.{buildCheck, searchCheck, findCheck}
 use Rattle.sparrowhem.specs.Build.{Built}
 use Rattle.sparrowhem.specs.Search.{Finds}

@@ -16,7 +16,7 @@ use Rattle.searches.specs.Searches.{Next}
 use Rattle.sparrowhem.specs.Parts.{FirstMatch, NoMatch, NewestSays}
 use Rattle.sparrowhem.specs.declared.parts.Newest.{Newest}
 use Rattle.sparrowhem.specs.declared.parts.Newest.the-variants.{Corrected, OnRecord as OnRecordAt, Nowhere, Refused as NewestRefused}
-use Rattle.checks.proofs.Passing.{clash}
+use Rattle.rows.proofs.Passing.{clash}
 
 -- the search of a row from its start
 module _ (A w t q : List ℕ) (c : Checked A w t q) (p : ℕ) (n : Next A w q 0 p) where

@@ -18,7 +18,7 @@ use Rattle.rows.specs.declared.Refusal.{Refusal}
 use Rattle.rows.specs.declared.Refusal.the-variants.{OutputShort}
 use Rattle.rows.specs.declared.Check.{Check}
 use Rattle.rows.specs.declared.Check.the-variants.{Fine, Refused}
-use Rattle.tables.proofs.Given.{both-fine}
+use Rattle.rows.proofs.Passing.{both-fine, output-fine}
 use Rattle.patterns.specs.Answers.{MatchesAt, Listed, spans}
 use Rattle.searches.specs.Searches.{Lists, Binds as Bound-at}
 use Rattle.patterns.specs.Walk.{comesThrough}
@@ -29,7 +29,7 @@ use Rattle.sparrowhem.specs.declared.search.Found.{Found}
 use Rattle.sparrowhem.specs.declared.search.Found.the-variants.{Matches, Refused as FindRefused}
 use Rattle.sparrowhem.specs.declared.search.Bound.{Bound}
 use Rattle.sparrowhem.specs.declared.search.Bound.the-variants.{Matched, Unmatched, Refused as BindRefused}
-use Rattle.checks.proofs.Passing.{output-fine, variables-checked}
+use Rattle.checks.proofs.Passing.{variables-checked}
 
 -- what stands behind a list that is written to the front stays
 pub written-behind : (b v : List ℕ) → drop (length v) (written b 0 v) ≡ drop (length v) b

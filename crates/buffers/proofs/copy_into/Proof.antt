@@ -9,7 +9,8 @@ use lib.ListN.{length, take, set, getD}
 use lib.Seq.{take-all}
 use denote.Ref.{now}
 use Rattle.rows.specs.Buffers.{written}
-use Rattle.buffers.proofs.Written.{written-nil, turn}
+use Rattle.buffers.proofs.Written.{turn}
+use Rattle.rows.proofs.Buffers.{written-nil}
 use borrow.Author.Needs.{needs}
 use Rattle.buffers.proofs.copy_into.Statement.{statement}
 use Rattle.buffers.proofs.copy_into.Tie as tie

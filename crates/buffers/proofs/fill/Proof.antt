@@ -8,7 +8,8 @@ use lib.ListN.{length, take, set, getD, replicate, length-replicate, getD-replic
 use lib.Seq.{take-all}
 use denote.Ref.{now}
 use Rattle.rows.specs.Buffers.{written}
-use Rattle.buffers.proofs.Written.{written-nil, turn}
+use Rattle.buffers.proofs.Written.{turn}
+use Rattle.rows.proofs.Buffers.{written-nil}
 use borrow.Author.Needs.{needs}
 use Rattle.buffers.proofs.fill.Statement.{statement}
 use Rattle.buffers.proofs.fill.Tie as tie

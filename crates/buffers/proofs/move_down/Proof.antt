@@ -8,7 +8,8 @@ use lib.ListN.{length, take, drop, set, getD, length-take, length-drop}
 use lib.Seq.{take-all, getD-take, getD-drop}
 use denote.Ref.{now}
 use Rattle.rows.specs.Buffers.{written}
-use Rattle.buffers.proofs.Written.{written-nil, turn, unturned}
+use Rattle.buffers.proofs.Written.{turn, unturned}
+use Rattle.rows.proofs.Buffers.{written-nil}
 use borrow.Author.Needs.{needs}
 use Rattle.buffers.proofs.move_down.Statement.{statement}
 use Rattle.buffers.proofs.move_down.Tie as tie

@@ -9,7 +9,8 @@ use lib.ListN.{length, take, drop, set, getD, length-take, length-drop, drop-of-
 use lib.Seq.{getD-take, getD-drop}
 use denote.Ref.{now}
 use Rattle.rows.specs.Buffers.{written}
-use Rattle.buffers.proofs.Written.{written-nil, turn-back, unturned-back}
+use Rattle.buffers.proofs.Written.{turn-back, unturned-back}
+use Rattle.rows.proofs.Buffers.{written-nil}
 use borrow.Author.Needs.{needs}
 use Rattle.buffers.proofs.move_up.Statement.{statement}
 use Rattle.buffers.proofs.move_up.Tie as tie

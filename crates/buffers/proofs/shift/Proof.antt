@@ -9,7 +9,8 @@ use lib.Seq.{take-all, getD-take, getD-drop}
 use denote.Ref.{now}
 use Rattle.rows.specs.Buffers.{written}
 use Rattle.buffers.specs.Shift.{shifted}
-use Rattle.buffers.proofs.Written.{written-nil, turn, unturned, getD-map}
+use Rattle.buffers.proofs.Written.{turn, unturned, getD-map}
+use Rattle.rows.proofs.Buffers.{written-nil}
 use borrow.Author.Needs.{needs}
 use Rattle.buffers.proofs.shift.Statement.{statement}
 use Rattle.buffers.proofs.shift.Tie as tie

@@ -5,7 +5,8 @@ use mathlib.Core.Path.{_≡_, refl, sym, ap, _∙_}
 use lib.ListN.{length, getD, take, set, length-set}
 use lib.Seq.{take-all}
 use Rattle.rows.specs.Buffers.{written}
-use Rattle.buffers.proofs.Written.{written-nil, turn}
+use Rattle.buffers.proofs.Written.{turn}
+use Rattle.rows.proofs.Buffers.{written-nil}
 use borrow.Author.Needs.{needs}
 use Rattle.decimal.proofs.put_bytes.Statement.{statement}
 use Rattle.decimal.proofs.put_bytes.Tie as tie

@@ -8,7 +8,7 @@ use lib.ListN.{length, take}
 use lib.Seq.{take-all}
 use denote.Ref.{now}
 use Rattle.rows.specs.Buffers.{written}
-use Rattle.buffers.proofs.Written.{written-nil}
+use Rattle.rows.proofs.Buffers.{written-nil}
 use Rattle.edits.specs.Moved.{moved}
 use Rattle.edits.proofs.Before.{length-before, turn-fits, turn-leaves}
 use borrow.Author.Needs.{needs}

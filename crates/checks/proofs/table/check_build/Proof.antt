@@ -2,7 +2,7 @@
 -- Assumes nothing.
 use mathlib.Core.Path.{sym, _∙_}
 use lib.ListN.{length}
-use Rattle.tables.proofs.Given.{sizes-fits}
+use Rattle.rows.proofs.Passing.{sizes-fits}
 use Rattle.checks.specs.Checks.{buildCheck}
 use borrow.Author.Needs.{needs}
 use Rattle.checks.proofs.table.check_build.Statement.{statement}
