@@ -1,4 +1,3 @@
 pub mod Building
 pub mod Passing
-pub mod Renumbering
 pub mod Replacing

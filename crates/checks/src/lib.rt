@@ -1,5 +1,6 @@
-// What each public call refuses: the first refusal in document 01's order, or none.
+// What each public call refuses: the first refusal in the order of docs/SCOPE.md, or none.
 mod edit;
+mod given;
 mod matcher;
 mod parts;
 mod search;

@@ -1,14 +1,15 @@
 // What find refuses before it looks for matches (its refusal 19 needs their count), and what the variables call refuses.
 ghost use mathlib.Core.Path.{_≡_};
+ghost use Rattle.rows.specs.Programme.{alphabetOf, programme};
 ghost use Rattle.checks.specs.Checks.{searchCheck, variablesCheck};
 use rows::Check;
 use rows::Refusal;
 
 // Refusals 1 to 15.
 pub fn check_search(arities: &[u16], row: &[u16], table: &[u16], pattern: &[u16]) -> Check
-    ensures { λ r. ⌜ r ≡ searchCheck (now (arities .entry)) (now (row .entry)) (now (table .entry)) (now (pattern .entry)) ⌝ }
+    ensures { λ r. ⌜ r ≡ searchCheck (alphabetOf (now (arities .entry))) (programme (now (row .entry)) (now (table .entry))) (now (pattern .entry)) ⌝ }
 {
-    let given = tables::check_given(arities, row, table);
+    let given = crate::given::check_given(arities, row, table, row.len());
     let Check::Fine = given else {
         return given;
     };
@@ -24,7 +25,7 @@ pub fn check_variables(
     position: usize,
     places: usize,
 ) -> Check
-    ensures { λ r. ⌜ r ≡ variablesCheck (now (arities .entry)) (now (row .entry)) (now (table .entry)) (now (pattern .entry)) position places ⌝ }
+    ensures { λ r. ⌜ r ≡ variablesCheck (alphabetOf (now (arities .entry))) (programme (now (row .entry)) (now (table .entry))) (now (pattern .entry)) position places ⌝ }
 {
     let search = check_search(arities, row, table, pattern);
     let Check::Fine = search else {
@@ -33,8 +34,8 @@ pub fn check_variables(
     if row.len() <= position {
         return Check::Refused(Refusal::Position(position));
     }
-    if places < 32 {
-        return Check::Refused(Refusal::OutputShort(32));
+    if places < rows::SPAN_PLACES {
+        return Check::Refused(Refusal::OutputShort(rows::SPAN_PLACES));
     }
     Check::Fine
 }

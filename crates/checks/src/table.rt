@@ -1,19 +1,25 @@
 // What build refuses.
 ghost use mathlib.Core.Path.{_≡_};
+ghost use Rattle.rows.specs.Programme.{alphabetOf, programme};
 ghost use Rattle.checks.specs.Checks.{buildCheck};
 use rows::Check;
+use rows::Keeping;
+use rows::Refusal;
 
-// Refusals 1 to 9, for a table with `places` places.
-pub fn check_build(arities: &[u16], row: &[u16], places: usize) -> Check
-    ensures { λ r. ⌜ r ≡ buildCheck (now (arities .entry)) (now (row .entry)) places ⌝ }
+// Refusals 1 to 9. The table is not read.
+pub fn check_build(arities: &[u16], row: &[u16], table: &[u16]) -> Check
+    ensures { λ r. ⌜ r ≡ buildCheck (alphabetOf (now (arities .entry))) (programme (now (row .entry)) (now (table .entry))) ⌝ }
 {
     let alphabet = rows::check_alphabet(arities);
     let Check::Fine = alphabet else {
         return alphabet;
     };
-    let sizes = rows::check_sizes(row.len(), places);
-    let Check::Fine = sizes else {
-        return sizes;
-    };
-    rows::check_symbols(arities, row)
+    let room = rows::shorter(row.len(), table.len());
+    if let Keeping::Unsound(k) = rows::check_sizes(row.len(), room) {
+        return Check::Refused(Refusal::Row(k));
+    }
+    match rows::check_symbols(arities, row) {
+        Keeping::Unsound(k) => Check::Refused(Refusal::Row(k)),
+        Keeping::Sound => Check::Fine,
+    }
 }

@@ -1,8 +1,10 @@
--- What a replacement asks for, and what it leaves.
+-- Inside: no public contract cites what stands in this file, and no reader has to believe it. What a replacement asks for, and what
+-- it leaves.
 use Prim.Native.Nat.{ℕ, _≤_, _<_}
 use mathlib.Core.Path.{_≡_}
 use mathlib.Core.List.{List}
 use lib.ListN.{length, take}
+use Rattle.rows.specs.Limits.{rowMost, freedSymbol, freedEntry}
 use Rattle.rows.specs.Tree.{size, prefix, ends}
 use Rattle.rows.specs.Row.{Accepted}
 use Rattle.tables.specs.Given.{Right}
@@ -16,7 +18,7 @@ pub record Replaceable (A row table : List ℕ) (n : ℕ) (v : List ℕ) (p : �
   pub right : Right A (take n row) table
   pub accepted : Accepted A v
   pub position : p < n
-  pub most : size (changed A (take n row) p v) ≤ 16384
+  pub most : size (changed A (take n row) p v) ≤ rowMost
   pub row-room : size (changed A (take n row) p v) ≤ length row
   pub table-room : size (changed A (take n row) p v) ≤ length table
 
@@ -24,5 +26,5 @@ pub record Replaceable (A row table : List ℕ) (n : ℕ) (v : List ℕ) (p : �
 -- places that are freed, and what stood behind them before
 pub record Replacing (A row table : List ℕ) (n : ℕ) (v : List ℕ) (p : ℕ) (row′ table′ : List ℕ) (m : ℕ) : Type 0 where
   pub length-now : m ≡ size (changed A (take n row) p v)
-  pub row-now : row′ ≡ renewed row n 65535 (prefix (changed A (take n row) p v))
-  pub table-now : table′ ≡ renewed table n 0 (ends 0 (changed A (take n row) p v))
+  pub row-now : row′ ≡ renewed row n freedSymbol (prefix (changed A (take n row) p v))
+  pub table-now : table′ ≡ renewed table n freedEntry (ends 0 (changed A (take n row) p v))

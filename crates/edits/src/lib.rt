@@ -4,6 +4,7 @@ ghost use mathlib.Core.List.{map};
 ghost use Prim.Native.Nat.{ℕ, _+_, _-_, _≤_, _<_};
 ghost use lib.ListN.{length, take, drop, getD};
 ghost use lib.IntN.{pos, _-ℤ_};
+ghost use Rattle.rows.specs.Limits.{rowMost, freedSymbol, freedEntry};
 ghost use Rattle.rows.specs.Tree.{ends};
 ghost use Rattle.rows.specs.Parse.{parse};
 ghost use Rattle.rows.specs.Row.{Accepted};
@@ -53,30 +54,30 @@ fn move_ends(table: &mut [u16], n: usize, p: usize, e: usize, to: usize)
     buffers::shift(table, to, rest, e as u16, to as u16);
 }
 
-// In the row of n symbols at the front of the buffer, those from p to e give way to `v`; freed places hold 65535.
+// In the row of n symbols at the front of the buffer, those from p to e give way to `v`; freed places are marked so.
 fn replace_symbols(row: &mut [u16], n: usize, p: usize, e: usize, v: &[u16])
     requires { ⌜ Room n p e (p + length (now v)) (length (now row)) ⌝ }
-    ensures { λ r. ⌜ now (row .exit) ≡ renewed (now (row .entry)) n 65535 (spliced (take n (now (row .entry))) p e (now (v .entry))) ⌝ }
+    ensures { λ r. ⌜ now (row .exit) ≡ renewed (now (row .entry)) n freedSymbol (spliced (take n (now (row .entry))) p e (now (v .entry))) ⌝ }
 {
     let to = p + v.len();
     let rest = n - e;
     buffers::move_part(row, e, to, rest);
     buffers::copy_into(&mut row[p..], v);
-    buffers::fill(row, to + rest, n, 65535);
+    buffers::fill(row, to + rest, n, rows::FREED_SYMBOL);
 }
 
 // In the table of n entries at the front of the buffer, those from p to e give way to those of the row `v`, and the others
-// move; freed places hold 0.
+// move; freed places are marked so.
 fn replace_ends(arities: &[u16], table: &mut [u16], n: usize, p: usize, e: usize, v: &[u16])
     requires { ⌜ Movable (now table) n p e (p + length (now v)) ⌝ }
     requires { ⌜ Accepted (now arities) (now v) ⌝ }
-    ensures { λ r. ⌜ now (table .exit) ≡ renewed (now (table .entry)) n 0 (splicedEnds (take n (now (table .entry))) p e (p + length (now (v .entry))) (ends p (parse (now (arities .entry)) (now (v .entry))))) ⌝ }
+    ensures { λ r. ⌜ now (table .exit) ≡ renewed (now (table .entry)) n freedEntry (splicedEnds (take n (now (table .entry))) p e (p + length (now (v .entry))) (ends p (parse (now (arities .entry)) (now (v .entry))))) ⌝ }
 {
     let to = p + v.len();
     let rest = n - e;
     move_ends(table, n, p, e, to);
     tables::fill_ends(arities, v, table, p);
-    buffers::fill(table, to + rest, n, 0);
+    buffers::fill(table, to + rest, n, rows::FREED_ENTRY);
 }
 
 // In the row of n symbols at the front of its buffer, with its table, the subtree at p gives way to the row `v`. The answer
@@ -101,7 +102,7 @@ pub fn replace_at(
 // Refusals 17 and 18, for a subtree of `size` symbols at position p of a row of n symbols with its table, where the shortest
 // buffer has `room` places.
 pub fn check_place(table: &[u16], room: usize, n: usize, size: usize, p: usize) -> Check
-    requires { ⌜ (n ≤ 16384) × (size ≤ 16384) × (n ≤ length (now table)) × (p < n → getD (now table) p 0 ≤ n) ⌝ }
+    requires { ⌜ (n ≤ rowMost) × (size ≤ rowMost) × (n ≤ length (now table)) × (p < n → getD (now table) p 0 ≤ n) ⌝ }
     ensures { λ r. ⌜ r ≡ (position n p then grown (p + size + (n - getD (now (table .entry)) p 0)) room) ⌝ }
 {
     if n <= p {
@@ -109,7 +110,7 @@ pub fn check_place(table: &[u16], room: usize, n: usize, size: usize, p: usize) 
     }
     let e = table[p] as usize;
     let new = p + size + (n - e);
-    if 16384 < new {
+    if rows::ROW_MOST < new {
         return Check::Refused(Refusal::TooLong(new));
     }
     if room < new {
@@ -120,7 +121,7 @@ pub fn check_place(table: &[u16], room: usize, n: usize, size: usize, p: usize) 
 
 // How much longer the new row is than the old one.
 pub fn change(new: usize, old: usize) -> i32
-    requires { ⌜ (new ≤ 16384) × (old ≤ 16384) ⌝ }
+    requires { ⌜ (new ≤ rowMost) × (old ≤ rowMost) ⌝ }
     ensures { λ r. ⌜ r ≡ pos new -ℤ pos old ⌝ }
 {
     new as i32 - old as i32

@@ -26,6 +26,10 @@ firstVariable = 65280
 abbrev pub variables : ℕ
 variables = 16
 
+-- begin and end of each variable
+abbrev pub spanPlaces : ℕ
+spanPlaces = 32
+
 -- what freed places hold: in the row, and in what stands beside it
 abbrev pub freedSymbol : ℕ
 freedSymbol = 65535

@@ -21,8 +21,8 @@ pub const ROW_MOST: usize = 16384;
 
 pub const PATTERN_MOST: usize = 256;
 
-// The numbers with a meaning of their own: the blank S; the variable X0, and how many variables there are; what freed places
-// hold in a row and in what stands beside it.
+// The numbers with a meaning of their own: the blank S; the variable X0, how many variables there are, and how many places their
+// begins and ends take; what freed places hold in a row and in what stands beside it.
 pub const BLANK: u16 = 65535;
 
 pub const FIRST_VARIABLE: u16 = 65280;
@@ -30,6 +30,7 @@ pub const FIRST_VARIABLE: u16 = 65280;
 pub const VARIABLES: u16 = 16;
 
 pub const PAST_VARIABLES: u16 = FIRST_VARIABLE + VARIABLES;
+pub const SPAN_PLACES: usize = 32;
 
 pub const FREED_SYMBOL: u16 = 65535;
 

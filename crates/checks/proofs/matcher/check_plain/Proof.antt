@@ -1,9 +1,9 @@
 -- `checks::matcher::check_plain` meets its contract. The checks on the way decide each case.
 -- Assumes nothing.
 use mathlib.Core.Path.{sym, _∙_}
-use borrow.Author.Tests.{lt-ltb, le-ltb}
+use borrow.Author.Tests.{lt-leb, le-leb}
 use Rattle.rows.specs.Refusals.{position}
-use Rattle.checks.specs.Checks.{rowCheck, plainCheck}
+use Rattle.checks.specs.Checks.{plainCheck}
 use borrow.Author.Needs.{needs}
 use Rattle.checks.proofs.matcher.check_plain.Statement.{statement}
 use Rattle.checks.proofs.matcher.check_plain.Tie as tie
@@ -18,7 +18,7 @@ enum-told-2 : tie.Need-enum-told-2
 enum-told-2 c = search needs
 
 returns : tie.Need-returns
-unfolding plainCheck rowCheck
+unfolding plainCheck
 returns c = simp (c .enum-told2 .given .1, sym (c .before .before .check-alphabet .ensures) ∙ c .enum-told2 .given .1)
 
 check-reading-requires : tie.Need-check-reading-requires
@@ -28,7 +28,7 @@ enum-known-f : tie.Need-enum-known-f
 enum-known-f c = search needs
 
 returns-2 : tie.Need-returns-2
-unfolding plainCheck rowCheck
+unfolding plainCheck
 returns-2 c =
     simp (sym (c .before .before .before .before .before .before .check-alphabet .ensures) ∙ c .before .before .before .before .enum-told .given .1, sym (c .before .before .before .check-reading .ensures) ∙ c .before .f .given .1)
 
@@ -45,19 +45,19 @@ enum-told-5 : tie.Need-enum-told-5
 enum-told-5 c = search needs
 
 returns-3 : tie.Need-returns-3
-unfolding plainCheck rowCheck
+unfolding plainCheck
 returns-3 c =
     simp (sym (c .before .before .before .before .before .before .before .before .check-alphabet .ensures) ∙ c .before .before .before .before .before .before .enum-told .given .1, sym (c .before .before .before .before .before .check-reading .ensures) ∙ c .before .before .before .enum-told3 .given .1, c .enum-told5 .given .1, sym (c .before .before .check-pattern .ensures) ∙ c .enum-told5 .given .1)
 
 returns-4 : tie.Need-returns-4
-unfolding plainCheck rowCheck position
+unfolding plainCheck position
 returns-4 c =
-    simp (sym (c .before .before .before .before .before .before .before .before .before .check-alphabet .ensures) ∙ c .before .before .before .before .before .before .before .enum-told .given .1, sym (c .before .before .before .before .before .before .check-reading .ensures) ∙ c .before .before .before .before .enum-told3 .given .1, sym (c .before .before .before .check-pattern .ensures) ∙ c .before .enum-told4 .given .1, lt-ltb _ _ (c .if1 .taken))
+    simp (sym (c .before .before .before .before .before .before .before .before .before .check-alphabet .ensures) ∙ c .before .before .before .before .before .before .before .enum-told .given .1, sym (c .before .before .before .before .before .before .check-reading .ensures) ∙ c .before .before .before .before .enum-told3 .given .1, sym (c .before .before .before .check-pattern .ensures) ∙ c .before .enum-told4 .given .1, lt-leb _ _ (c .if1 .taken))
 
 returns-5 : tie.Need-returns-5
-unfolding plainCheck rowCheck position
+unfolding plainCheck position
 returns-5 c =
-    simp (sym (c .before .before .before .before .before .before .before .before .before .check-alphabet .ensures) ∙ c .before .before .before .before .before .before .before .enum-told .given .1, sym (c .before .before .before .before .before .before .check-reading .ensures) ∙ c .before .before .before .before .enum-told3 .given .1, sym (c .before .before .before .check-pattern .ensures) ∙ c .before .enum-told4 .given .1, le-ltb _ _ (c .if1 .left))
+    simp (sym (c .before .before .before .before .before .before .before .before .before .check-alphabet .ensures) ∙ c .before .before .before .before .before .before .before .enum-told .given .1, sym (c .before .before .before .before .before .before .check-reading .ensures) ∙ c .before .before .before .before .enum-told3 .given .1, sym (c .before .before .before .check-pattern .ensures) ∙ c .before .enum-told4 .given .1, le-leb _ _ (c .if1 .left))
 
 pub check-plain-spec : {M : Type 1} → statement M
 check-plain-spec =

@@ -1,6 +1,8 @@
 -- `checks::parts::check_newer` meets its contract. The checks on the way decide each case.
 -- Assumes nothing.
-use mathlib.Core.Path.{sym, _∙_}
+use mathlib.Core.Path.{sym, ap, _∙_}
+use Rattle.rows.specs.Refusals.{keeps}
+use Rattle.rows.specs.declared.Refusal.the-variants.{OnRecord}
 use Rattle.checks.specs.Checks.{newerCheck}
 use borrow.Author.Needs.{needs}
 use Rattle.checks.proofs.parts.check_newer.Statement.{statement}
@@ -22,16 +24,13 @@ returns c = simp (c .enum-told2 .given .1, sym (c .before .before .check-given .
 check-kept-requires : tie.Need-check-kept-requires
 check-kept-requires c κs = search needs
 
-enum-known-r : tie.Need-enum-known-r
-enum-known-r c = search needs
-
-recorded-requires : tie.Need-recorded-requires
-recorded-requires c κs = search needs
+enum-known-k : tie.Need-enum-known-k
+enum-known-k c = search needs
 
 returns-2 : tie.Need-returns-2
 unfolding newerCheck
 returns-2 c =
-    simp (sym (c .before .before .before .before .before .before .before .check-given .ensures) ∙ c .before .before .before .before .before .enum-told .given .1, sym (c .before .before .before .before .check-kept .ensures) ∙ c .before .before .r .given .1, c .recorded .ensures)
+    simp (sym (c .before .before .before .before .before .before .check-given .ensures) ∙ c .before .before .before .before .enum-told .given .1, sym (c .before .before .before .check-kept .ensures OnRecord) ∙ ap (keeps OnRecord) (c .before .k .given .1))
 
 enum-told-3 : tie.Need-enum-told-3
 enum-told-3 c = search needs
@@ -41,7 +40,7 @@ check-pattern-requires c κs = search needs
 
 returns-3 : tie.Need-returns-3
 unfolding newerCheck
-returns-3 c = simp (sym (c .before .before .before .before .before .before .check-given .ensures) ∙ c .before .before .before .before .enum-told .given .1, sym (c .before .before .before .check-kept .ensures) ∙ c .before .enum-told3 .given .1, c .check-pattern .ensures)
+returns-3 c = simp (sym (c .before .before .before .before .before .before .check-given .ensures) ∙ c .before .before .before .before .enum-told .given .1, sym (c .before .before .before .check-kept .ensures OnRecord) ∙ ap (keeps OnRecord) (c .before .enum-told3 .given .1), c .check-pattern .ensures)
 
 pub check-newer-spec : {M : Type 1} → statement M
 check-newer-spec =
@@ -52,8 +51,7 @@ check-newer-spec =
     enum-told-2
     returns
     check-kept-requires
-    enum-known-r
-    recorded-requires
+    enum-known-k
     returns-2
     enum-told-3
     check-pattern-requires

@@ -1,7 +1,7 @@
 -- `checks::parts::check_subtree` meets its contract. The checks on the way decide each case.
 -- Assumes nothing.
 use mathlib.Core.Path.{sym, _∙_}
-use borrow.Author.Tests.{lt-ltb, le-ltb}
+use borrow.Author.Tests.{lt-leb, le-leb}
 use Rattle.rows.specs.Refusals.{position}
 use Rattle.checks.specs.Checks.{subtreeCheck}
 use borrow.Author.Needs.{needs}
@@ -23,11 +23,11 @@ returns c = simp (c .enum-told2 .given .1, sym (c .before .before .check-given .
 
 returns-2 : tie.Need-returns-2
 unfolding subtreeCheck position
-returns-2 c = simp (sym (c .before .before .before .check-given .ensures) ∙ c .before .enum-told .given .1, lt-ltb _ _ (c .if1 .taken))
+returns-2 c = simp (sym (c .before .before .before .check-given .ensures) ∙ c .before .enum-told .given .1, lt-leb _ _ (c .if1 .taken))
 
 returns-3 : tie.Need-returns-3
 unfolding subtreeCheck position
-returns-3 c = simp (sym (c .before .before .before .check-given .ensures) ∙ c .before .enum-told .given .1, le-ltb _ _ (c .if1 .left))
+returns-3 c = simp (sym (c .before .before .before .check-given .ensures) ∙ c .before .enum-told .given .1, le-leb _ _ (c .if1 .left))
 
 pub check-subtree-spec : {M : Type 1} → statement M
 check-subtree-spec =
