@@ -95,7 +95,7 @@ def rows_of(text):
 
 
 def before():
-    """The figures of the last committed page, of the crates and of the gate."""
+    """The last committed page: the figures of the crates and of the gate, and the machine."""
     shown = subprocess.run(["git", "show", f"HEAD:{PAGE}"], cwd=ROOT, capture_output=True, text=True, check=False)
     crates, gate = {}, {}
     for kind, name, cells in rows_of(shown.stdout):
@@ -108,7 +108,8 @@ def before():
     used = re.search(r"used (\d+) minutes of processor time", shown.stdout)
     if clock and used:
         gate = dict(zip(GATE, (60 * int(used[1]), 60 * int(clock[1]) + int(clock[2]), clock[3])))
-    return crates, gate
+    on = re.search(r"\bon ([^,;\n]* \(family \d+, model \d+\))", shown.stdout)
+    return crates, gate, on[1] if on else "a machine that it does not name"
 
 
 def machine():
@@ -147,7 +148,7 @@ def main():
         subprocess.run(["git", "clone", "-q", ROOT, clone], check=True)
         took = run(["bash", ".ci/run"] if gate else ["rt", "check", *named], clone, kit)
         now = measured(notes, crates)
-    then, gate_then = before()
+    then, gate_then, on = before()
     if not gate:
         same = {crate: figures for crate, figures in then.items() if crate in now or (crate == "all" and not named)}
         print("\n".join(crate_table(now, same, COLUMNS[:1])))
@@ -158,8 +159,9 @@ def main():
         "Processor seconds (user and system) to check each crate once from nothing; its must-fail edits in the gate, how many and",
         "their processor seconds (each is a whole check of its crate); and the whole of `bash .ci/run` on a fresh clone, tests of",
         f"the host side included. Measured by `tools/check_times.py` on {machine()}",
-        f"with {os.cpu_count()} cores. Beside each figure stands that of the page before this one; `-` where there is none. Later changes",
-        "are measured against the processor seconds, on such a machine that does nothing else.",
+        f"with {os.cpu_count()} cores. Beside each figure stands that of the page before this one, `-` where there is none; it was",
+        f"measured on {on}. Later changes are measured against the processor seconds,",
+        "on such a machine that does nothing else.",
         "",
         *crate_table(now, then, COLUMNS),
         "",
