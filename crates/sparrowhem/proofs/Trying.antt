@@ -7,13 +7,14 @@ use native.Mathlib.Nat.{add-zero}
 use native.Mathlib.Omega.{arith}
 use lib.ListN.{length, getD, drop, length-drop}
 use lib.Seq.{getD-drop}
+use Rattle.rows.specs.Programme.{Alphabet}
 use Rattle.rows.specs.Tree.{Forest.none, Tree, subtreeAt, subtrees}
 use Rattle.rows.specs.Parse.{parse, treeOf, behind}
 use Rattle.rows.specs.Row.{symbol}
 use Rattle.rows.proofs.Accept.{ranked-parse}
 use Rattle.rows.proofs.Entry.{behind-some}
 use Rattle.rows.proofs.Subtrees.{drop-subtrees}
-use Rattle.patterns.specs.Pattern.{Matches}
+use Rattle.patterns.specs.Pattern.{Match}
 use Rattle.patterns.specs.Answers.{MatchesAt}
 use Rattle.plain.specs.Plain.{Tryable}
 use Rattle.plain.proofs.Spelling.{tail, tail-is, ranked-drop}
@@ -28,27 +29,22 @@ tree-there A w p h =
     ∙ getD-drop p (subtrees (parse A w)) 0 bud
     ∙ ap (λ (n : ℕ). getD (subtrees (parse A w)) n bud) (add-zero p)
 
-module _ (A w q : List ℕ) (p : ℕ) (o : Open A w q p) where
-  pub open-tryable : Tryable A (tail w p) q
+module _ (a : Alphabet) (w q : List ℕ) (p : ℕ) (o : Open a w q p) where
+  pub open-tryable : Tryable a (tail w p) q
   unfolding behind
   open-tryable =
-      subst (λ (l : List ℕ). Tryable A l q) (sym (tail-is w p))
+      subst (λ (l : List ℕ). Tryable a l q) (sym (tail-is w p))
       (record {
         few = o .few;
         most = omega (arith, o .most, length-drop p w);
         row =
             record {
-              ranked = ranked-drop A (symbol A) p w (ranked-parse A (symbol A) w 1 0 (o .accepted));
-              many = behind-some A w p (o .below);
+              ranked = ranked-drop (a .arities) (symbol (a .arities)) p w (ranked-parse (a .arities) (symbol (a .arities)) w 1 0 (o .accepted));
+              many = behind-some (a .arities) w p (o .below);
             };
         pattern = o .pattern;
       })
 
-  there : treeOf A (tail w p) ≡ subtreeAt (parse A w) p
-  there = ap (treeOf A) (tail-is w p) ∙ tree-there A w p (o .below)
-
-  pub open-matches : Matches (treeOf A q) (treeOf A (tail w p)) → MatchesAt A w q p
-  open-matches m = subst (Matches (treeOf A q)) there m
-
-  pub matches-open : MatchesAt A w q p → Matches (treeOf A q) (treeOf A (tail w p))
-  matches-open m = subst (Matches (treeOf A q)) (sym there) m
+  -- the pattern matches there exactly if it matches the tree of the part
+  pub there : Match (treeOf (a .arities) q) (treeOf (a .arities) (tail w p)) ≡ MatchesAt a w q p
+  there = ap (Match (treeOf (a .arities) q)) (ap (treeOf (a .arities)) (tail-is w p) ∙ tree-there (a .arities) w p (o .below))

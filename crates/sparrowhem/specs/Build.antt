@@ -1,14 +1,16 @@
--- What build answers, and what it leaves in the table.
-use Prim.Native.Nat.{ℕ}
+-- What build answers, and what it leaves beside the row.
 use mathlib.Core.Path.{_≡_}
-use mathlib.Core.List.{List}
-use lib.ListN.{length}
+use Rattle.rows.specs.Programme.{Alphabet, Programme}
 use Rattle.rows.specs.Parse.{table as tableOf}
 use Rattle.rows.specs.Buffers.{written, after}
 use Rattle.rows.specs.declared.Check.{Check}
 use Rattle.checks.specs.Checks.{buildCheck}
 
--- `r` answers a build of the row `w` over the alphabet `A` into the table `t`, which is `t′` afterwards
-pub record Built (A w t : List ℕ) (r : Check) (t′ : List ℕ) : Type 0 where
-  pub answer : r ≡ buildCheck A w (length t)
-  pub table : t′ ≡ after (buildCheck A w (length t)) (written t 0 (tableOf A w)) t
+-- the row with its own table at the front of the lent one; later places stay
+abbrev pub built : Alphabet → Programme → Programme
+built a P = record { row = P .row; table = written (P .table) 0 (tableOf (a .arities) (P .row)) }
+
+-- `r` answers a build, and `P′` is what the lists hold afterwards
+pub record Built (a : Alphabet) (P : Programme) (r : Check) (P′ : Programme) : Type 0 where
+  pub answer : r ≡ buildCheck a P
+  pub lists : P′ ≡ after (buildCheck a P) (built a P) P

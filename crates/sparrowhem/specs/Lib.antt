@@ -1,3 +1,4 @@
+pub mod Said
 pub mod Build
 pub mod Edit
 pub mod Parts

@@ -2,6 +2,7 @@
 use Prim.Native.Nat.{ℕ}
 use mathlib.Core.Path.{_≡_}
 use mathlib.Core.List.{List}
+use Rattle.rows.specs.Programme.{Alphabet}
 use Rattle.rows.specs.declared.Check.the-variants.{Fine, Refused}
 use Rattle.patterns.specs.Answers.{MatchesAt}
 use Rattle.checks.specs.Checks.{plainCheck}
@@ -9,7 +10,7 @@ use Rattle.sparrowhem.specs.declared.matcher.Fits.{Fits}
 use Rattle.sparrowhem.specs.declared.matcher.Fits.the-variants.{Yes, No, Refused as PlainRefused}
 
 -- what an answer at position p says: nothing is refused and the pattern matches there, or does not; or the first refusal
-abbrev pub PlainSays : List ℕ → List ℕ → List ℕ → ℕ → Fits → Type 0
-PlainSays A w q p Yes = (plainCheck A w q p ≡ Fine) × MatchesAt A w q p
-PlainSays A w q p No = (plainCheck A w q p ≡ Fine) × (MatchesAt A w q p → ⊥)
-PlainSays A w q p (PlainRefused r) = plainCheck A w q p ≡ Refused r
+abbrev pub PlainSays : Alphabet → List ℕ → List ℕ → ℕ → Fits → Type 0
+PlainSays a w q p Yes = (plainCheck a w q p ≡ Fine) × MatchesAt a w q p
+PlainSays a w q p No = (plainCheck a w q p ≡ Fine) × (MatchesAt a w q p → ⊥)
+PlainSays a w q p (PlainRefused r) = plainCheck a w q p ≡ Refused r

@@ -5,6 +5,7 @@ use mathlib.Core.List.{List}
 use mathlib.Core.Bool.{Bool, true, false}
 use mathlib.Core.Logic.{_↔_}
 use lib.ListN.{length}
+use Rattle.rows.specs.Programme.{Alphabet, Programme}
 use Rattle.rows.specs.Row.{pick}
 use Rattle.rows.specs.Buffers.{written, after}
 use Rattle.rows.specs.declared.Check.{Check}
@@ -23,11 +24,11 @@ found (Refused r) n = FindRefused r
 
 -- `r` answers find with the output `y`, which is `y′` afterwards. Where refusals 1 to 15 leave anything to search,
 -- `positions` is the list of all matches.
-pub record Finds (A w t q y : List ℕ) (r : Found) (y′ : List ℕ) : Type 0 where
+pub record Finds (a : Alphabet) (P : Programme) (q y : List ℕ) (r : Found) (y′ : List ℕ) : Type 0 where
   pub positions : List ℕ
-  pub listed : searchCheck A w t q ≡ Fine → Listed A w q (length w) positions
-  pub answer : r ≡ found (findCheck A w t q (length positions) (length y)) (length positions)
-  pub buffer : y′ ≡ after (findCheck A w t q (length positions) (length y)) (written y 0 positions) y
+  pub listed : searchCheck a P q ≡ Fine → Listed a (P .row) q (length (P .row)) positions
+  pub answer : r ≡ found (findCheck a P q (length positions) (length y)) (length positions)
+  pub output : y′ ≡ after (findCheck a P q (length positions) (length y)) (written y 0 positions) y
 
 -- matched or not, or the refusal
 abbrev pub bound : Check → Bool → Bound
@@ -37,8 +38,8 @@ bound (Refused r) b = BindRefused r
 
 -- `r` answers the variables call at position `p` with the output `y`, which is `y′` afterwards. Where nothing is refused,
 -- `matched` says whether the pattern matches there.
-pub record Binds (A w t q : List ℕ) (p : ℕ) (y : List ℕ) (r : Bound) (y′ : List ℕ) : Type 0 where
+pub record Binds (a : Alphabet) (P : Programme) (q : List ℕ) (p : ℕ) (y : List ℕ) (r : Bound) (y′ : List ℕ) : Type 0 where
   pub matched : Bool
-  pub exactly : variablesCheck A w t q p (length y) ≡ Fine → (matched ≡ true) ↔ MatchesAt A w q p
-  pub answer : r ≡ bound (variablesCheck A w t q p (length y)) matched
-  pub buffer : y′ ≡ after (variablesCheck A w t q p (length y)) (pick matched (written y 0 (spans A w q p)) y) y
+  pub exactly : variablesCheck a P q p (length y) ≡ Fine → (matched ≡ true) ↔ MatchesAt a (P .row) q p
+  pub answer : r ≡ bound (variablesCheck a P q p (length y)) matched
+  pub output : y′ ≡ after (variablesCheck a P q p (length y)) (pick matched (written y 0 (spans (a .arities) (P .row) q p)) y) y

@@ -1,4 +1,5 @@
 // Replacing a subtree, in place.
+ghost use Rattle.rows.specs.Programme.{alphabetOf, programme};
 ghost use Rattle.sparrowhem.specs.Edit.{Replacement};
 use rows::Check;
 use rows::Refusal;
@@ -19,7 +20,7 @@ pub fn replace(
     replacement: &[u16],
     position: usize,
 ) -> Replaced
-    ensures { λ r. ⌜ Replacement (now (arities .entry)) (now (row .entry)) (now (table .entry)) «row_length» (now (replacement .entry)) position r (now (row .exit)) (now (table .exit)) ⌝ }
+    ensures { λ r. ⌜ Replacement (alphabetOf (now (arities .entry))) (programme (now (row .entry)) (now (table .entry))) «row_length» (now (replacement .entry)) position r (programme (now (row .exit)) (now (table .exit))) ⌝ }
 {
     match checks::check_replace(arities, row, table, row_length, replacement, position) {
         Check::Refused(r) => Replaced::Refused(r),

@@ -1,9 +1,11 @@
 // Parts of lent rows, handed back and not copied.
 ghost use mathlib.Core.Path.{_≡_};
 ghost use denote.Ref.{ptr};
+ghost use Rattle.rows.specs.Programme.{alphabetOf, programme};
 ghost use Rattle.sparrowhem.specs.Parts.{subtreePart, subtreeAnswer, SubtreeLies, NewestSays, NewerPart, NewerLies};
 use rows::Check;
 use rows::Refusal;
+use searches::Next;
 
 // Where a subtree stands in its row: begin and end, the end not included; or why the call refuses.
 pub enum Placed {
@@ -13,7 +15,7 @@ pub enum Placed {
 
 // The companion of `subtree`: begin and end of the subtree at the position, or the refusal.
 pub fn subtree_answer(arities: &[u16], row: &[u16], table: &[u16], position: usize) -> Placed
-    ensures { λ r. ⌜ r ≡ subtreeAnswer (now (arities .entry)) (now (row .entry)) (now (table .entry)) position ⌝ }
+    ensures { λ r. ⌜ r ≡ subtreeAnswer (alphabetOf (now (arities .entry))) (programme (now (row .entry)) (now (table .entry))) position ⌝ }
 {
     match checks::check_subtree(arities, row, table, position) {
         Check::Refused(r) => Placed::Refused(r),
@@ -23,8 +25,8 @@ pub fn subtree_answer(arities: &[u16], row: &[u16], table: &[u16], position: usi
 
 // The subtree at the position, as a part of the row; empty exactly for a refusal.
 pub fn subtree<'a>(arities: &[u16], row: &'a [u16], table: &[u16], position: usize) -> &'a [u16]
-    ensures { λ r. ⌜ now r ≡ subtreePart (now (arities .entry)) (now (row .entry)) (now (table .entry)) position ⌝ }
-    ensures { λ r. ⌜ SubtreeLies (subtreeAnswer (now (arities .entry)) (now (row .entry)) (now (table .entry)) position) (ptr (row .entry)) (ptr r) ⌝ }
+    ensures { λ r. ⌜ now r ≡ subtreePart (alphabetOf (now (arities .entry))) (programme (now (row .entry)) (now (table .entry))) position ⌝ }
+    ensures { λ r. ⌜ SubtreeLies (subtreeAnswer (alphabetOf (now (arities .entry))) (programme (now (row .entry)) (now (table .entry))) position) (ptr (row .entry)) (ptr r) ⌝ }
 {
     match subtree_answer(arities, row, table, position) {
         Placed::Refused(_) => &row[0..0],
@@ -51,7 +53,7 @@ pub fn newer_answer(
     record_table: &[u16],
     pattern: &[u16],
 ) -> Newest
-    ensures { λ r. ⌜ NewestSays (now (arities .entry)) (now (corrected .entry)) (now («corrected_table» .entry)) (now («record» .entry)) (now («record_table» .entry)) (now (pattern .entry)) r ⌝ }
+    ensures { λ r. ⌜ NewestSays (alphabetOf (now (arities .entry))) (programme (now (corrected .entry)) (now («corrected_table» .entry))) (programme (now («record» .entry)) (now («record_table» .entry))) (now (pattern .entry)) r ⌝ }
 {
     match checks::check_newer(
         arities,
@@ -63,15 +65,13 @@ pub fn newer_answer(
     ) {
         Check::Refused(r) => Newest::Refused(r),
         Check::Fine => {
-            let p = searches::next_match(corrected, corrected_table, pattern, 0);
-            if p < corrected.len() {
+            if let Next::At(p) = searches::next_match(corrected, corrected_table, pattern, 0) {
                 return Newest::Corrected(p, corrected_table[p] as usize);
             }
-            let q = searches::next_match(record, record_table, pattern, 0);
-            if q < record.len() {
-                return Newest::OnRecord(q, record_table[q] as usize);
+            match searches::next_match(record, record_table, pattern, 0) {
+                Next::At(p) => Newest::OnRecord(p, record_table[p] as usize),
+                Next::Nowhere => Newest::Nowhere,
             }
-            Newest::Nowhere
         }
     }
 }
@@ -86,8 +86,8 @@ pub fn newer<'a>(
     record_table: &[u16],
     pattern: &[u16],
 ) -> &'a [u16]
-    ensures { λ r. ⌜ NewerPart (now (arities .entry)) (now (corrected .entry)) (now («corrected_table» .entry)) (now («record» .entry)) (now («record_table» .entry)) (now (pattern .entry)) (now r) ⌝ }
-    ensures { λ r. ⌜ NewerLies (now (arities .entry)) (now (corrected .entry)) (now («corrected_table» .entry)) (now («record» .entry)) (now («record_table» .entry)) (now (pattern .entry)) (ptr (corrected .entry)) (ptr («record» .entry)) (ptr r) ⌝ }
+    ensures { λ r. ⌜ NewerPart (alphabetOf (now (arities .entry))) (programme (now (corrected .entry)) (now («corrected_table» .entry))) (programme (now («record» .entry)) (now («record_table» .entry))) (now (pattern .entry)) (now r) ⌝ }
+    ensures { λ r. ⌜ NewerLies (alphabetOf (now (arities .entry))) (programme (now (corrected .entry)) (now («corrected_table» .entry))) (programme (now («record» .entry)) (now («record_table» .entry))) (now (pattern .entry)) (ptr (corrected .entry)) (ptr («record» .entry)) (ptr r) ⌝ }
 {
     match newer_answer(
         arities,

@@ -1,7 +1,10 @@
 // Patterns over a row with its table.
+ghost use Rattle.rows.specs.Programme.{alphabetOf, programme};
 ghost use Rattle.sparrowhem.specs.Search.{Finds, Binds};
+use patterns::Walked;
 use rows::Check;
 use rows::Refusal;
+use searches::Listing;
 
 // What find answers: the number of the matches, or why it refuses.
 pub enum Found {
@@ -19,16 +22,16 @@ pub enum Bound {
 // Find: the number of the matches, which stand at the front of `out`, rising, later places stay; or the first refusal,
 // which writes nothing.
 pub fn find(arities: &[u16], row: &[u16], table: &[u16], pattern: &[u16], out: &mut [u16]) -> Found
-    ensures { λ r. ⌜ Finds (now (arities .entry)) (now (row .entry)) (now (table .entry)) (now (pattern .entry)) (now (out .entry)) r (now (out .exit)) ⌝ }
+    ensures { λ r. ⌜ Finds (alphabetOf (now (arities .entry))) (programme (now (row .entry)) (now (table .entry))) (now (pattern .entry)) (now (out .entry)) r (now (out .exit)) ⌝ }
 {
     match checks::check_search(arities, row, table, pattern) {
         Check::Refused(r) => Found::Refused(r),
         Check::Fine => {
-            let count = searches::list_matches(row, table, pattern, out);
-            if out.len() < count {
-                return Found::Refused(Refusal::OutputShort(count));
+            let listed = searches::list_matches(row, table, pattern, out);
+            match listed {
+                Listing::All(count) => Found::Matches(count),
+                Listing::Needs(count) => Found::Refused(Refusal::OutputShort(count)),
             }
-            Found::Matches(count)
         }
     }
 }
@@ -43,15 +46,16 @@ pub fn variables(
     position: usize,
     out: &mut [u16],
 ) -> Bound
-    ensures { λ r. ⌜ Binds (now (arities .entry)) (now (row .entry)) (now (table .entry)) (now (pattern .entry)) position (now (out .entry)) r (now (out .exit)) ⌝ }
+    ensures { λ r. ⌜ Binds (alphabetOf (now (arities .entry))) (programme (now (row .entry)) (now (table .entry))) (now (pattern .entry)) position (now (out .entry)) r (now (out .exit)) ⌝ }
 {
     match checks::check_variables(arities, row, table, pattern, position, out.len()) {
         Check::Refused(r) => Bound::Refused(r),
         Check::Fine => {
-            if searches::variables_at(row, table, pattern, position, out) {
-                return Bound::Matched;
+            let walked = searches::variables_at(row, table, pattern, position, out);
+            match walked {
+                Walked::Through => Bound::Matched,
+                Walked::Fails(_, _) => Bound::Unmatched,
             }
-            Bound::Unmatched
         }
     }
 }

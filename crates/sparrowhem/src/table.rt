@@ -1,12 +1,13 @@
 // The table of a row.
+ghost use Rattle.rows.specs.Programme.{alphabetOf, programme};
 ghost use Rattle.sparrowhem.specs.Build.{Built};
 use rows::Check;
 
 // Build: the row's table at the front of `table`, later places stay; or the first refusal, which writes nothing.
 pub fn build(arities: &[u16], row: &[u16], table: &mut [u16]) -> Check
-    ensures { λ r. ⌜ Built (now (arities .entry)) (now (row .entry)) (now (table .entry)) r (now (table .exit)) ⌝ }
+    ensures { λ r. ⌜ Built (alphabetOf (now (arities .entry))) (programme (now (row .entry)) (now (table .entry))) r (programme (now (row .entry)) (now (table .exit))) ⌝ }
 {
-    match checks::check_build(arities, row, table.len()) {
+    match checks::check_build(arities, row, table) {
         Check::Refused(r) => Check::Refused(r),
         Check::Fine => {
             tables::fill_ends(arities, row, table, 0);

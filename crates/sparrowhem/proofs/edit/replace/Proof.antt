@@ -1,13 +1,16 @@
 -- `sparrowhem::replace` meets its contract. Row and table are changed where nothing is refused.
 -- Assumes nothing.
-use mathlib.Core.Path.{_≡_, sym, ap, _∙_}
+use mathlib.Core.Path.{_≡_, sym, ap, ap₂, _∙_}
 use Prim.Native.Nat.{ℕ}
 use lib.IntN.{pos, _-ℤ_}
 use denote.Ref.{now}
 use mir.Syntax.{w32}
 use mir.Val.{toZ, ofZ}
 use mir.Facts.{toZ-ofZ}
+use Rattle.rows.specs.Programme.{alphabetOf, programme}
 use Rattle.sparrowhem.specs.declared.edit.Replaced.the-variants.{Done}
+use Rattle.rows.specs.Buffers.{after}
+use Rattle.rows.specs.declared.Check.{Check}
 use Rattle.rows.specs.declared.Check.the-variants.{Fine}
 use Rattle.checks.specs.Checks.{replaceCheck}
 use Rattle.checks.proofs.Replacing.{replace-able, able-sizes}
@@ -16,7 +19,7 @@ use Rattle.sparrowhem.proofs.edit.replace.Statement.{statement}
 use Rattle.sparrowhem.proofs.edit.replace.Tie as tie
 
 fine : (c : tie.After-enum-told)
-    → replaceCheck (now (c .before .before .before .before .before .before .before .before .before .args .arities)) (now (c .before .before .before .before .before .before .before .before .before .args .row)) (now (c .before .before .before .before .before .before .before .before .before .args .table)) (c .before .before .before .before .before .before .before .before .before .args .row-length) (now (c .before .before .before .before .before .before .before .before .before .args .replacement)) (c .before .before .before .before .before .before .before .before .before .args .position) ≡ Fine
+    → replaceCheck (alphabetOf (now (c .before .before .before .before .before .before .before .before .before .args .arities))) (programme (now (c .before .before .before .before .before .before .before .before .before .args .row)) (now (c .before .before .before .before .before .before .before .before .before .args .table))) (c .before .before .before .before .before .before .before .before .before .args .row-length) (now (c .before .before .before .before .before .before .before .before .before .args .replacement)) (c .before .before .before .before .before .before .before .before .before .args .position) ≡ Fine
 fine c = sym (c .before .before .check-replace .ensures) ∙ c .enum-told .given .1
 
 check-replace-requires : tie.Need-check-replace-requires
@@ -31,13 +34,13 @@ enum-told c = search needs
 replace-at-requires : tie.Need-replace-at-requires
 replace-at-requires c κs =
     let a = c .before .before .before .before .before .before .before .before .before .before .before .args in
-    replace-able (now (a .arities)) (now (a .row)) (now (a .table)) (a .row-length) (now (a .replacement)) (a .position) (fine (c .before .before))
+    replace-able (alphabetOf (now (a .arities))) (programme (now (a .row)) (now (a .table))) (a .row-length) (now (a .replacement)) (a .position) (fine (c .before .before))
 
 change-requires : tie.Need-change-requires
 change-requires c κs =
     let a = c .before .before .before .before .before .before .before .before .before .before .before .before .before .before .before .before .args in
     able-sizes (now (a .arities)) (now (a .row)) (now (a .table)) (a .row-length) (now (a .replacement)) (a .position) (c .before .before .before .before .replace-at .result)
-    (replace-able (now (a .arities)) (now (a .row)) (now (a .table)) (a .row-length) (now (a .replacement)) (a .position) (fine (c .before .before .before .before .before .before .before)))
+    (replace-able (alphabetOf (now (a .arities))) (programme (now (a .row)) (now (a .table))) (a .row-length) (now (a .replacement)) (a .position) (fine (c .before .before .before .before .before .before .before)))
     (c .before .before .before .before .replace-at .ensures .length-now)
 
 same-length : tie.Need-same-length
@@ -49,7 +52,7 @@ same-length-2 c = search needs
 returns : tie.Need-returns
 returns c =
     let e = sym (c .before .before .before .check-replace .ensures) ∙ c .before .r .given .1 in
-    record { answer = simp e; row-after = simp e; table-after = simp e }
+    record { answer = simp e; lists = sym (ap (λ (x : Check). after x _ _) e) }
 
 same-length-3 : tie.Need-same-length-3
 same-length-3 c = search needs
@@ -65,8 +68,7 @@ returns-2 c =
     toZ-ofZ {w = w32} {z = c .change .result} (search needs) ∙ c .change .ensures in
     record {
       answer = simp e (ap (Done (c .before .before .before .before .before .replace-at .result)) z ∙ ap (λ (m : ℕ). Done m (pos m -ℤ pos (c .before .before .before .before .before .before .before .before .before .before .before .before .before .before .before .before .before .args .row-length))) (r .length-now));
-      row-after = simp e (r .row-now);
-      table-after = simp e (r .table-now);
+      lists = ap₂ programme (r .row-now) (r .table-now) ∙ sym (ap (λ (x : Check). after x _ _) e);
     }
 
 pub replace-spec : {M : Type 1} → statement M

@@ -2,6 +2,7 @@
 -- Assumes nothing.
 use mathlib.Core.Path.{_≡_, refl, subst}
 use native.Mathlib.Omega.{arith}
+use Rattle.rows.specs.Programme.{alphabetOf, programme}
 use Rattle.sparrowhem.specs.Parts.{FirstMatch, NewestSays}
 use Rattle.sparrowhem.specs.declared.parts.Newest.{Newest}
 use Rattle.sparrowhem.specs.declared.parts.Newest.the-variants.{Corrected, OnRecord, Nowhere, Refused}
@@ -12,15 +13,15 @@ use Rattle.sparrowhem.proofs.parts.newer.Tie as tie
 
 -- what the companion says of an answer that is known
 told : (c : tie.After-newer-answer) (r : Newest) → c .newer-answer .result ≡ r
-    → (let a = c .before .before .before .before .before .before .before .args in NewestSays (a .arities .now) (a .corrected .now) (a .corrected-table .now) (a .«record» .now) (a .record-table .now) (a .pattern .now) r)
-told c r e = let a = c .before .before .before .before .before .before .before .args in subst (NewestSays (a .arities .now) (a .corrected .now) (a .corrected-table .now) (a .«record» .now) (a .record-table .now) (a .pattern .now)) e (c .newer-answer .ensures)
+    → (let a = c .before .before .before .before .before .before .before .args in NewestSays (alphabetOf (a .arities .now)) (programme (a .corrected .now) (a .corrected-table .now)) (programme (a .«record» .now) (a .record-table .now)) (a .pattern .now) r)
+told c r e = let a = c .before .before .before .before .before .before .before .args in subst (NewestSays (alphabetOf (a .arities .now)) (programme (a .corrected .now) (a .corrected-table .now)) (programme (a .«record» .now) (a .record-table .now)) (a .pattern .now)) e (c .newer-answer .ensures)
 
 in-corrected : (c : tie.After-begin)
-    → (let a = c .before .before .before .before .before .before .before .before .before .args in FirstMatch (a .arities .now) (a .corrected .now) (a .pattern .now) (c .begin .given .0 .0) (c .begin .given .0 .1 .0))
+    → (let a = c .before .before .before .before .before .before .before .before .before .args in FirstMatch (alphabetOf (a .arities .now)) (a .corrected .now) (a .pattern .now) (c .begin .given .0 .0) (c .begin .given .0 .1 .0))
 in-corrected c = told (c .before .before) _ (c .begin .given .1) .1
 
 on-record : (c : tie.After-begin2)
-    → (let a = c .before .before .before .before .before .before .before .before .before .args in FirstMatch (a .arities .now) (a .«record» .now) (a .pattern .now) (c .begin2 .given .0 .0) (c .begin2 .given .0 .1 .0))
+    → (let a = c .before .before .before .before .before .before .before .before .before .args in FirstMatch (alphabetOf (a .arities .now)) (a .«record» .now) (a .pattern .now) (c .begin2 .given .0 .0) (c .begin2 .given .0 .1 .0))
 on-record c = told (c .before .before) _ (c .begin2 .given .1) .2
 
 newer-answer-requires : tie.Need-newer-answer-requires

@@ -2,6 +2,7 @@
 -- Assumes nothing.
 use mathlib.Core.Path.{sym, _∙_}
 use native.Mathlib.Omega.{arith}
+use Rattle.rows.specs.Programme.{alphabetOf, programme}
 use Rattle.tables.proofs.Given.{right-entry}
 use Rattle.sparrowhem.specs.Parts.{subtreeAnswer}
 use Rattle.checks.proofs.Passing.{Stands, subtree-stands}
@@ -10,10 +11,10 @@ use Rattle.sparrowhem.proofs.parts.subtree_answer.Statement.{statement}
 use Rattle.sparrowhem.proofs.parts.subtree_answer.Tie as tie
 
 -- nothing is refused: the position lies in the row, whose table is right
-stands : (c : tie.After-enum-told) → Stands (c .before .before .before .before .before .before .args .arities .now) (c .before .before .before .before .before .before .args .row .now) (c .before .before .before .before .before .before .args .table .now) (c .before .before .before .before .before .before .args .position)
+stands : (c : tie.After-enum-told) → Stands (alphabetOf (c .before .before .before .before .before .before .args .arities .now)) (programme (c .before .before .before .before .before .before .args .row .now) (c .before .before .before .before .before .before .args .table .now)) (c .before .before .before .before .before .before .args .position)
 stands c =
     let a = c .before .before .before .before .before .before .args in
-    subtree-stands (a .arities .now) (a .row .now) (a .table .now) (a .position) (sym (c .before .before .check-subtree .ensures) ∙ c .enum-told .given .1)
+    subtree-stands (alphabetOf (a .arities .now)) (programme (a .row .now) (a .table .now)) (a .position) (sym (c .before .before .check-subtree .ensures) ∙ c .enum-told .given .1)
 
 check-subtree-requires : tie.Need-check-subtree-requires
 check-subtree-requires c κs = search needs

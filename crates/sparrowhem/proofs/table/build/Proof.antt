@@ -1,8 +1,10 @@
 -- `sparrowhem::build` meets its contract. The table is filled where nothing is refused.
 -- Assumes nothing.
-use mathlib.Core.Path.{_≡_, sym, _∙_}
-use lib.ListN.{length}
+use mathlib.Core.Path.{_≡_, sym, ap, _∙_}
+use Rattle.rows.specs.Programme.{alphabetOf, programme}
 use Rattle.rows.specs.Parse.{table}
+use Rattle.rows.specs.Buffers.{after}
+use Rattle.rows.specs.declared.Check.{Check}
 use Rattle.rows.specs.declared.Check.the-variants.{Fine}
 use Rattle.checks.specs.Checks.{buildCheck}
 use Rattle.checks.proofs.Building.{build-fillable}
@@ -11,7 +13,7 @@ use Rattle.sparrowhem.proofs.table.build.Statement.{statement}
 use Rattle.sparrowhem.proofs.table.build.Tie as tie
 
 fine : (c : tie.After-fill-ends-arg)
-    → _≡_ (buildCheck (c .before .before .before .before .before .before .before .args .arities .now) (c .before .before .before .before .before .before .before .args .row .now) (length (c .before .before .before .before .before .before .before .args .table .now))) Fine
+    → (let a = c .before .before .before .before .before .before .before .args in buildCheck (alphabetOf (a .arities .now)) (programme (a .row .now) (a .table .now)) ≡ Fine)
 fine c = sym (c .before .before .before .check-build .ensures) ∙ c .before .enum-told .given .1
 
 check-build-requires : tie.Need-check-build-requires
@@ -26,12 +28,12 @@ enum-told c = search needs
 fill-ends-requires : tie.Need-fill-ends-requires
 fill-ends-requires c κs =
     let a = c .before .before .before .before .before .before .before .args in
-    build-fillable (a .arities .now) (a .row .now) (a .table .now) (fine c)
+    build-fillable (alphabetOf (a .arities .now)) (programme (a .row .now) (a .table .now)) (fine c)
 
 returns : tie.Need-returns
 returns c =
     let e = sym (c .before .before .before .check-build .ensures) ∙ c .before .r .given .1 in
-    record { answer = sym e; table = simp e }
+    record { answer = sym e; lists = sym (ap (λ (x : Check). after x _ _) e) }
 
 same-length : tie.Need-same-length
 same-length c = search needs
@@ -40,7 +42,7 @@ returns-2 : tie.Need-returns-2
 unfolding table
 returns-2 c =
     let e = fine (c .before .before .before) in
-    record { answer = sym e; table = simp e (c .before .before .fill-ends .ensures) }
+    record { answer = sym e; lists = ap (programme _) (c .before .before .fill-ends .ensures) ∙ sym (ap (λ (x : Check). after x _ _) e) }
 
 pub build-spec : {M : Type 1} → statement M
 build-spec =
