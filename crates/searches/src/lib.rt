@@ -147,7 +147,13 @@ fn write_spans(table: &[u16], marks: [u16; patterns::MARKS], out: &mut [u16])
 
 // Does the pattern match at p? If it does, the spans of its variables are written at the front of `out`; if not, the answer
 // says where the walk fails.
-pub fn variables_at(row: &[u16], table: &[u16], pattern: &[u16], p: usize, out: &mut [u16]) -> Walked
+pub fn variables_at(
+    row: &[u16],
+    table: &[u16],
+    pattern: &[u16],
+    p: usize,
+    out: &mut [u16],
+) -> Walked
     requires { ⌜ Searchable (programme (now row) (now table)) (now pattern) × (p < length (now row)) × (variables + variables ≤ length (now out)) ⌝ }
     ensures { λ r. ⌜ ((a : Alphabet) → Checked a (programme (now (row .entry)) (now (table .entry))) (now (pattern .entry)) → VariablesAt a (now (row .entry)) (now (pattern .entry)) p (now (out .entry)) r (now (out .exit))) ⌝ }
 {
