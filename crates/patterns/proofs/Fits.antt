@@ -7,7 +7,7 @@ use borrow.Author.Tests.{lt-ltb, le-ltb, eq-eqb, ne-eqb}
 use lib.Dec.{ltb, eqb}
 use Rattle.rows.specs.Tree.{Forest, Forest.none, Forest.grow, Tree, single, size}
 use Rattle.rows.specs.Row.{pick}
-use Rattle.patterns.specs.Pattern.{leaf, Choice, before, plug, filled, Matches}
+use Rattle.patterns.specs.Pattern.{leaf, Choice, before, plug, filled, Match}
 use Rattle.patterns.specs.declared.Leaf.{Leaf}
 use Rattle.patterns.specs.declared.Leaf.the-variants.{Plain, Blank, Variable}
 
@@ -81,12 +81,12 @@ module _ (v : ℕ → Tree) (B : ℕ → Tree) where
       (h .0))
 
 -- a pattern matches exactly if it fits for some trees of the variables
-pub fits-matches : (v : ℕ → Tree) (P t : Tree) → Fits v (single P) (single t) → Matches P t
+pub fits-matches : (v : ℕ → Tree) (P t : Tree) → Fits v (single P) (single t) → Match P t
 fits-matches v P t h =
     record {
       choice = chosen v (blanks (single P) (single t) 0);
       turns = filled-of v (blanks (single P) (single t) 0) 0 (single P) (single t) (λ k l m. refl) h;
     }
 
-pub matches-fits : (P t : Tree) (m : Matches P t) → Fits (m .choice .forVariable) (single P) (single t)
+pub matches-fits : (P t : Tree) (m : Match P t) → Fits (m .choice .forVariable) (single P) (single t)
 matches-fits P t m = fits-of (m .choice) 0 (single P) (single t) (m .turns)

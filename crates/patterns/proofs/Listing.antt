@@ -10,6 +10,7 @@ use native.Mathlib.Numerals.{add-one}
 use native.Mathlib.Decide.{decLt, ℕ-discrete}
 use lib.ListN.{getD, length, length-append, List·getD-append}
 use lib.Seq.{getD-at}
+use Rattle.rows.specs.Programme.{Alphabet, Programme}
 use Rattle.rows.specs.Row.{pick}
 use Rattle.patterns.specs.Answers.{MatchesAt, Listed}
 use Rattle.patterns.specs.Searchable.{Checked}
@@ -66,56 +67,56 @@ rises-more ps n r s i h = go (decLt (i + 1) (length ps))
     go (no l) = rw (List·getD-append ps (n ∷ []) 0 i inside, getD-at ps n [] 0 (i + 1) (omega (arith, long))) (s (getD ps i 0) (mem-at ps i inside))
 
 -- LISTS OF MATCHES
-module _ (A w q : List ℕ) where
-  pub listed-none : Listed A w q 0 []
+module _ (a : Alphabet) (w q : List ℕ) where
+  pub listed-none : Listed a w q 0 []
   listed-none = record { rises = λ i h. absurd (omega arith); exactly = λ p. (λ m. absurd (List·Memᴰ·not-nil m), λ h. absurd (omega (arith, h .0))) }
 
-  pub listed-here : (n : ℕ) (ps : List ℕ) → Listed A w q n ps → MatchesAt A w q n → Listed A w q (n + 1) (ps ++ (n ∷ []))
+  pub listed-here : (n : ℕ) (ps : List ℕ) → Listed a w q n ps → MatchesAt a w q n → Listed a w q (n + 1) (ps ++ (n ∷ []))
   listed-here n ps l m =
       record {
         rises = rises-more ps n (l .rises) (λ x i. l .exactly x .0 i .0);
         exactly = λ p. (to p, back p);
       }
     where
-      to : (p : ℕ) → List·Memᴰ p (ps ++ (n ∷ [])) → (p < n + 1) × MatchesAt A w q p
+      to : (p : ℕ) → List·Memᴰ p (ps ++ (n ∷ [])) → (p < n + 1) × MatchesAt a w q p
       to p i =
           ⊎-elim (λ (i : List·Memᴰ p ps). (let h = l .exactly p .0 i in (omega (arith, h .0), h .1)))
-          (λ (i : List·Memᴰ p (n ∷ [])). (let e : p ≡ n = List·Memᴰ·eq-of-singleton i in (omega arith, subst (λ (k : ℕ). MatchesAt A w q k) (sym e) m)))
+          (λ (i : List·Memᴰ p (n ∷ [])). (let e : p ≡ n = List·Memᴰ·eq-of-singleton i in (omega arith, subst (λ (k : ℕ). MatchesAt a w q k) (sym e) m)))
           (List·Memᴰ·append-cases ps i)
 
-      back : (p : ℕ) → (p < n + 1) × MatchesAt A w q p → List·Memᴰ p (ps ++ (n ∷ []))
+      back : (p : ℕ) → (p < n + 1) × MatchesAt a w q p → List·Memᴰ p (ps ++ (n ∷ []))
       back p h = go (ℕ-discrete p n)
         where
           go : Dec (p ≡ n) → List·Memᴰ p (ps ++ (n ∷ []))
           go (yes e) = Memᴰ·append-right ps (List·Memᴰ·head e)
           go (no e) = Memᴰ·append-left (n ∷ []) (l .exactly p .1 (omega (arith, h .0, e), h .1))
 
-  pub listed-skip : (n m : ℕ) (ps : List ℕ) → Listed A w q n ps → n ≤ m → ((p : ℕ) → n ≤ p → p < m → MatchesAt A w q p → ⊥) → Listed A w q m ps
+  pub listed-skip : (n m : ℕ) (ps : List ℕ) → Listed a w q n ps → n ≤ m → ((p : ℕ) → n ≤ p → p < m → MatchesAt a w q p → ⊥) → Listed a w q m ps
   listed-skip n m ps l h none =
       record { rises = l .rises; exactly = λ p. (λ i. (let x = l .exactly p .0 i in (omega (arith, x .0), x .1)), λ x. go p x (decLt p n)) }
     where
-      go : (p : ℕ) → (p < m) × MatchesAt A w q p → Dec (p < n) → List·Memᴰ p ps
+      go : (p : ℕ) → (p < m) × MatchesAt a w q p → Dec (p < n) → List·Memᴰ p ps
       go p x (yes k) = l .exactly p .1 (k, x .1)
       go p x (no k) = absurd (none p (omega arith) (x .0) (x .1))
 
   -- two lists of the matches below one bound are equal
-  pub listed-once : (n : ℕ) (ps qs : List ℕ) → Listed A w q n ps → Listed A w q n qs → ps ≡ qs
-  listed-once n ps qs a b =
-      rises-once ps qs (a .rises) (b .rises) (λ x i. b .exactly x .1 (a .exactly x .0 i)) (λ x i. a .exactly x .1 (b .exactly x .0 i))
+  pub listed-once : (n : ℕ) (ps qs : List ℕ) → Listed a w q n ps → Listed a w q n qs → ps ≡ qs
+  listed-once n ps qs k l =
+      rises-once ps qs (k .rises) (l .rises) (λ x i. l .exactly x .1 (k .exactly x .0 i)) (λ x i. k .exactly x .1 (l .exactly x .0 i))
 
-module _ (A w e q : List ℕ) (c : Checked A w e q) where
+module _ (a : Alphabet) (P : Programme) (q : List ℕ) (c : Checked a P q) where
   -- the list that the walk computes
-  pub listing : (n : ℕ) → n ≤ length w → Listed A w q n (below (comesThrough w e q) n)
+  pub listing : (n : ℕ) → n ≤ length (P .row) → Listed a (P .row) q n (below (comesThrough (P .row) (P .table) q) n)
   unfolding below
-  listing zero h = listed-none A w q
-  listing (suc n) h = go (comesThrough w e q n) refl (listing n (omega arith))
+  listing zero h = listed-none a (P .row) q
+  listing (suc n) h = go (comesThrough (P .row) (P .table) q n) refl (listing n (omega arith))
     where
-      go : (b : Bool) → comesThrough w e q n ≡ b → Listed A w q n (below (comesThrough w e q) n)
-          → Listed A w q (suc n) (below (comesThrough w e q) n ++ pick b (n ∷ []) [])
+      go : (b : Bool) → comesThrough (P .row) (P .table) q n ≡ b → Listed a (P .row) q n (below (comesThrough (P .row) (P .table) q) n)
+          → Listed a (P .row) q (suc n) (below (comesThrough (P .row) (P .table) q) n ++ pick b (n ∷ []) [])
       go true z l =
-          subst (λ (k : ℕ). Listed A w q k (below (comesThrough w e q) n ++ (n ∷ []))) (add-one n)
-          (listed-here A w q n _ l (right A w e q c n (omega arith) .0 z))
+          subst (λ (k : ℕ). Listed a (P .row) q k (below (comesThrough (P .row) (P .table) q) n ++ (n ∷ []))) (add-one n)
+          (listed-here a (P .row) q n _ l (right a P q c n (omega arith) .0 z))
       go false z l =
-          rw (append-nil (below (comesThrough w e q) n))
-          (listed-skip A w q n (suc n) _ l (omega arith)
-          (λ p a b m. (let y = right A w e q c p (omega arith) .1 m in let same : p ≡ n = omega arith in let x : _≡_ {A = ℕ} 0 1 = cc (ap (comesThrough w e q) same) in omega arith)))
+          rw (append-nil (below (comesThrough (P .row) (P .table) q) n))
+          (listed-skip a (P .row) q n (suc n) _ l (omega arith)
+          (λ p from to m. (let y = right a P q c p (omega arith) .1 m in let same : p ≡ n = omega arith in let x : _≡_ {A = ℕ} 0 1 = cc (ap (comesThrough (P .row) (P .table) q) same) in omega arith)))

@@ -10,6 +10,7 @@ use native.Mathlib.Decide.{decLt, ℕ-discrete}
 use lib.Dec.{eqb}
 use lib.ListN.{getD, length, set, length-set, List·getD-eq-default, getD-replicate}
 use lib.Seq.{getD-set-same, getD-set-other, set-out}
+use Rattle.rows.specs.Limits.{variables}
 use Rattle.rows.specs.Row.{pick}
 use Rattle.patterns.specs.Pattern.{leaf}
 use Rattle.patterns.specs.Walk.{sameSymbol, Outcome, Outcome.misses, Outcome.reaches, agreeing, meets, takes, steps, onward, walk, unmarked, MarksIn}
@@ -22,10 +23,10 @@ picks P true x y p q = p
 picks P false x y p q = q
 
 pub unmarked-zero : (i : ℕ) → getD unmarked i 0 ≡ 0
-unmarked-zero i = go (decLt i 16)
+unmarked-zero i = go (decLt i variables)
   where
-    go : Dec (i < 16) → getD unmarked i 0 ≡ 0
-    go (yes l) = getD-replicate 16 i 0 0 l
+    go : Dec (i < variables) → getD unmarked i 0 ≡ 0
+    go (yes l) = getD-replicate variables i 0 0 l
     go (no l) = List·getD-eq-default unmarked 0 {n = i} (omega arith)
 
 -- a mark after one more was set
@@ -59,44 +60,48 @@ pub record Kept (ms ms′ : List ℕ) : Type 0 where
   pub marks : (k a : ℕ) → getD ms k 0 ≡ suc a → getD ms′ k 0 ≡ suc a
 
 abbrev pub Keeps : List ℕ → Outcome → Type 0
-Keeps ms (misses j) = Unit {0}
+Keeps ms (misses k j) = Unit {0}
 Keeps ms (reaches j ms′) = Kept ms ms′
 
 kept-same : (ms : List ℕ) → Kept ms ms
 kept-same ms = record { many = refl; marks = λ k a q. q }
 
-module _ (w e : List ℕ) where
-  keeps-meets : (j : ℕ) (ms : List ℕ) (i m : ℕ) → getD ms i 0 ≡ m → Keeps ms (meets w e j ms i m)
+module _ (w : List ℕ) where
+  keeps-meets : (end k j : ℕ) (ms : List ℕ) (i m : ℕ) → getD ms i 0 ≡ m → Keeps ms (meets w end k j ms i m)
   unfolding meets
-  keeps-meets j ms i zero n =
+  keeps-meets end k j ms i zero n =
       record {
         many = length-set ms i (j + 1);
-        marks = λ k a q. getD-set-other ms i k (j + 1) 0 (λ (d : k ≡ i). (let z : getD ms i 0 ≡ suc a = ap (λ (x : ℕ). getD ms x 0) (sym d) ∙ q in omega arith)) ∙ q;
+        marks = λ x a q. getD-set-other ms i x (j + 1) 0 (λ (d : x ≡ i). (let z : getD ms i 0 ≡ suc a = ap (λ (x : ℕ). getD ms x 0) (sym d) ∙ q in omega arith)) ∙ q;
       }
-  keeps-meets j ms i (suc a) n = picks (Keeps ms) (eqb (agreeing w e a j) (getD e j 0 - j)) (reaches (getD e j 0) ms) (misses (j + agreeing w e a j)) (kept-same ms) tt
+  keeps-meets end k j ms i (suc a) n =
+      picks (Keeps ms) (eqb (agreeing w a j (end - j)) (end - j)) (reaches end ms) (misses k (j + agreeing w a j (end - j))) (kept-same ms) tt
 
-  keeps-takes : (j : ℕ) (ms : List ℕ) (l : Leaf) → Keeps ms (takes w e j ms l)
+  keeps-takes : (end k j : ℕ) (ms : List ℕ) (l : Leaf) → Keeps ms (takes w end k j ms l)
   unfolding takes
-  keeps-takes j ms Plain = tt
-  keeps-takes j ms Blank = kept-same ms
-  keeps-takes j ms (Variable i) = keeps-meets j ms i (getD ms i 0) refl
+  keeps-takes end k j ms Plain = tt
+  keeps-takes end k j ms Blank = kept-same ms
+  keeps-takes end k j ms (Variable i) = keeps-meets end k j ms i (getD ms i 0) refl
 
-  pub keeps-steps : (s j : ℕ) (ms : List ℕ) → Keeps ms (steps w e s j ms)
-  unfolding steps
-  keeps-steps s j ms = picks (Keeps ms) (sameSymbol (getD w j 0) s) (reaches (j + 1) ms) (takes w e j ms (leaf s)) (kept-same ms) (keeps-takes j ms (leaf s))
+  module _ (e : List ℕ) where
+    pub keeps-steps : (k s j : ℕ) (ms : List ℕ) → Keeps ms (steps w e k s j ms)
+    unfolding steps
+    keeps-steps k s j ms =
+        picks (Keeps ms) (sameSymbol (getD w j 0) s) (reaches (j + 1) ms) (takes w (getD e j 0) k j ms (leaf s)) (kept-same ms) (keeps-takes (getD e j 0) k j ms (leaf s))
 
-  keeps : (q : List ℕ) (j : ℕ) (ms : List ℕ) → Keeps ms (walk w e q j ms)
-  unfolding walk
-  keeps [] j ms = kept-same ms
-  keeps (s ∷ q) j ms = go (steps w e s j ms) (keeps-steps s j ms) (keeps q)
-    where
-      then : (ms₁ : List ℕ) (o : Outcome) → Kept ms ms₁ → Keeps ms₁ o → Keeps ms o
-      then ms₁ (misses x) h k = tt
-      then ms₁ (reaches j′ ms₂) h k = record { many = k .many ∙ h .many; marks = λ i a z. k .marks i a (h .marks i a z) }
+    keeps : (k : ℕ) (q : List ℕ) (j : ℕ) (ms : List ℕ) → Keeps ms (walk w e k q j ms)
+    unfolding walk
+    keeps k [] j ms = kept-same ms
+    keeps k (s ∷ q) j ms = go (steps w e k s j ms) (keeps-steps k s j ms) (keeps (k + 1) q)
+      where
+        then : (ms₁ : List ℕ) (o : Outcome) → Kept ms ms₁ → Keeps ms₁ o → Keeps ms o
+        then ms₁ (misses x y) h b = tt
+        then ms₁ (reaches j′ ms₂) h b = record { many = b .many ∙ h .many; marks = λ i a z. b .marks i a (h .marks i a z) }
 
-      go : (o : Outcome) → Keeps ms o → ((j′ : ℕ) (ms′ : List ℕ) → Keeps ms′ (walk w e q j′ ms′)) → Keeps ms (onward o (λ j′ ms′. walk w e q j′ ms′))
-      go (misses x) h ih = tt
-      go (reaches j₁ ms₁) h ih = then ms₁ (walk w e q j₁ ms₁) h (ih j₁ ms₁)
+        go : (o : Outcome) → Keeps ms o → ((j′ : ℕ) (ms′ : List ℕ) → Keeps ms′ (walk w e (k + 1) q j′ ms′))
+            → Keeps ms (onward o (λ j′ ms′. walk w e (k + 1) q j′ ms′))
+        go (misses x y) h ih = tt
+        go (reaches j₁ ms₁) h ih = then ms₁ (walk w e (k + 1) q j₁ ms₁) h (ih j₁ ms₁)
 
-  pub kept : (q : List ℕ) (j : ℕ) (ms : List ℕ) (j′ : ℕ) (ms′ : List ℕ) → walk w e q j ms ≡ reaches j′ ms′ → Kept ms ms′
-  kept q j ms j′ ms′ z = subst (Keeps ms) z (keeps q j ms)
+    pub kept : (k : ℕ) (q : List ℕ) (j : ℕ) (ms : List ℕ) (j′ : ℕ) (ms′ : List ℕ) → walk w e k q j ms ≡ reaches j′ ms′ → Kept ms ms′
+    kept k q j ms j′ ms′ z = subst (Keeps ms) z (keeps k q j ms)

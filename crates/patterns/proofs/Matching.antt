@@ -7,6 +7,8 @@ use mathlib.Core.List.{List, [], append-nil}
 use mathlib.Core.Bool.{true}
 use native.Mathlib.Omega.{arith}
 use lib.ListN.{getD, length}
+use Rattle.rows.specs.Limits.{patternMost}
+use Rattle.rows.specs.Programme.{Alphabet, Programme}
 use Rattle.rows.specs.Tree.{Forest.none, Tree, single, size, count, prefix, Ranked, subtrees, subtreeAt}
 use Rattle.rows.specs.Parse.{parse, treeOf}
 use Rattle.rows.specs.Row.{verdict, allowed, orElse, sized, reading}
@@ -32,17 +34,17 @@ both-whole (Faulty f) b e = let z : _≡_ {A = ℕ} 0 1 = cc in absurd (omega ar
 -- what an accepted pattern is
 pub record PatternOf (A q : List ℕ) : Type 0 where
   pub some : 0 < length q
-  pub most : length q ≤ 256
+  pub most : length q ≤ patternMost
   pub whole : verdict A (allowed Blanks A) 1 0 q ≡ Whole
   pub tree : parse A q ≡ single (treeOf A q)
   pub ranked : Ranked A (allowed Blanks A) (single (treeOf A q))
   pub reads : prefix (single (treeOf A q)) ≡ q
 
-pub pattern-of : (A q : List ℕ) → reading A Blanks 256 q ≡ Whole → PatternOf A q
+pub pattern-of : (A q : List ℕ) → reading A Blanks patternMost q ≡ Whole → PatternOf A q
 unfolding reading subtrees
 pattern-of A q e =
-    let both = both-whole (sized (length q) 256) (verdict A (allowed Blanks A) 1 0 q) e in
-    let fits = sized-fits (length q) 256 (both .0) in
+    let both = both-whole (sized (length q) patternMost) (verdict A (allowed Blanks A) 1 0 q) e in
+    let fits = sized-fits (length q) patternMost (both .0) in
     let one = lone (parse A q) (count-parse A (allowed Blanks A) q 1 0 (both .1)) in
     let tree : parse A q ≡ single (treeOf A q) = one .1 ∙ ap (λ f. single (subtreeAt f 0)) (sym (one .1)) in
     record {
@@ -55,86 +57,86 @@ pattern-of A q e =
     }
 
 came : (o : Outcome) → through o ≡ true → (j : ℕ) × (ms : List ℕ) × (o ≡ reaches j ms)
-came (misses j) q = let z : _≡_ {A = ℕ} 0 1 = cc in absurd (omega arith)
+came (misses k j) q = let z : _≡_ {A = ℕ} 0 1 = cc in absurd (omega arith)
 came (reaches j ms) q = (j, ms, refl)
 
-module _ (A w e q : List ℕ) (c : Checked A w e q) where
+module _ (a : Alphabet) (P : Programme) (q : List ℕ) (c : Checked a P q) where
   -- a right table has what the code needs of it
-  pub checked-ends : Ends w e
+  pub checked-ends : Ends (P .row) (P .table)
   checked-ends =
       record {
         most = c .row .sized .most;
         long = c .row .sized .fits;
-        past = λ p h. right-bounds A w e (c .row) p h .0;
-        within = λ p h. right-bounds A w e (c .row) p h .1;
+        past = λ p h. right-bounds (a .arities) (P .row) (P .table) (c .row) p h .0;
+        within = λ p h. right-bounds (a .arities) (P .row) (P .table) (c .row) p h .1;
       }
 
-  pub checked-pattern : PatternOf A q
-  checked-pattern = pattern-of A q (c .pattern)
+  pub checked-pattern : PatternOf (a .arities) q
+  checked-pattern = pattern-of (a .arities) q (c .pattern)
 
-  module _ (p : ℕ) (inside : p < length w) where
+  module _ (p : ℕ) (inside : p < length (P .row)) where
     abbrev pub under : Tree
-    under = subtreeAt (parse A w) p
+    under = subtreeAt (parse (a .arities) (P .row)) p
 
     -- for some trees of the variables: the walk comes through, with the marks of these trees
-    pub walk-comes : (v : ℕ → Tree) → Fits v (single (treeOf A q)) (single under)
-        → (j : ℕ) × (ms : List ℕ) × (walk w e q p unmarked ≡ reaches j ms) × Agrees A w e v ms
+    pub walk-comes : (v : ℕ → Tree) → Fits v (single (treeOf (a .arities) q)) (single under)
+        → (j : ℕ) × (ms : List ℕ) × (walk (P .row) (P .table) 0 q p unmarked ≡ reaches j ms) × Agrees (a .arities) (P .row) (P .table) v ms
     unfolding walk
     walk-comes v x =
-        let h = planted-at A w e (c .row) p inside in
-        let P = checked-pattern in
-        let r = complete A w e (c .few) (single (treeOf A q)) v (single under) p unmarked [] (P .ranked) (h .ranked) (h .stands)
-        (record { all = λ i a z. absurd (omega (arith, z, unmarked-zero i)) }) x in
-        (p + size (single under), r .0, ap (λ (u : List ℕ). walk w e u p unmarked) (sym (append-nil (prefix (single (treeOf A q))) ∙ P .reads)) ∙ r .1, r .2)
+        let h = planted-at (a .arities) (P .row) (P .table) (c .row) p inside in
+        let Q = checked-pattern in
+        let r = complete (a .arities) (P .row) (P .table) (c .few) (single (treeOf (a .arities) q)) v (single under) 0 p unmarked [] (Q .ranked) (h .ranked) (h .stands)
+        (record { all = λ i b z. absurd (omega (arith, z, unmarked-zero i)) }) x in
+        (p + size (single under), r .0, ap (λ (u : List ℕ). walk (P .row) (P .table) 0 u p unmarked) (sym (append-nil (prefix (single (treeOf (a .arities) q))) ∙ Q .reads)) ∙ r .1, r .2)
 
-    module _ (j : ℕ) (ms : List ℕ) (z : walk w e q p unmarked ≡ reaches j ms) where
-      shown : MarksIn (length w) ms × ((v : ℕ → Tree) → Agrees A w e v ms → Fits v (single (treeOf A q)) (single under))
+    module _ (j : ℕ) (ms : List ℕ) (z : walk (P .row) (P .table) 0 q p unmarked ≡ reaches j ms) where
+      shown : MarksIn (length (P .row)) ms × ((v : ℕ → Tree) → Agrees (a .arities) (P .row) (P .table) v ms → Fits v (single (treeOf (a .arities) q)) (single under))
       unfolding walk count size
       shown =
-          let h = planted-at A w e (c .row) p inside in
-          let P = checked-pattern in
-          let r = sound A w e (c .few) (single (treeOf A q)) (single under) p unmarked [] j ms (P .ranked) (h .ranked) refl (h .stands) (marks-none p)
-          (ap (λ (u : List ℕ). walk w e u p unmarked) (append-nil (prefix (single (treeOf A q))) ∙ P .reads) ∙ z) in
+          let h = planted-at (a .arities) (P .row) (P .table) (c .row) p inside in
+          let Q = checked-pattern in
+          let r = sound (a .arities) (P .row) (P .table) (c .few) (single (treeOf (a .arities) q)) (single under) 0 p unmarked [] j ms (Q .ranked) (h .ranked) refl (h .stands) (marks-none p)
+          (ap (λ (u : List ℕ). walk (P .row) (P .table) 0 u p unmarked) (append-nil (prefix (single (treeOf (a .arities) q))) ∙ Q .reads) ∙ z) in
           let same : r .0 ≡ ms = cc (r .2) in
-          let n : p + (size (under .children) + 0 + 1) ≤ length w = omega (arith, stands-end w e p _ _ none (h .stands), checked-ends .within p inside) in
+          let n : p + (size (under .children) + 0 + 1) ≤ length (P .row) = omega (arith, stands-end (P .row) (P .table) p _ _ none (h .stands), checked-ends .within p inside) in
           (record { many = ap length (sym same) ∙ r .1 .many; all = λ i. omega (arith, ap (λ (u : List ℕ). getD u i 0) same, r .1 .all i) }, r .3)
 
       -- the walk has marked subtrees of the row
-      pub walk-marks : MarksIn (length w) ms
+      pub walk-marks : MarksIn (length (P .row)) ms
       walk-marks = shown .0
 
       -- the trees at the marks
       abbrev at-marks : ℕ → Tree
-      at-marks i = subtreeAt (parse A w) (getD ms i 0 - 1)
+      at-marks i = subtreeAt (parse (a .arities) (P .row)) (getD ms i 0 - 1)
 
       -- and the pattern fits for them
-      pub walk-fits : Fits at-marks (single (treeOf A q)) (single under)
+      pub walk-fits : Fits at-marks (single (treeOf (a .arities) q)) (single under)
       walk-fits = shown .1 at-marks (record { all = agrees })
         where
-          agrees : (i a : ℕ) → getD ms i 0 ≡ suc a → Planted A w e a (at-marks i)
-          agrees i a y =
-              let same : a ≡ getD ms i 0 - 1 = omega arith in
-              subst (λ (n : ℕ). Planted A w e a (subtreeAt (parse A w) n)) same (planted-at A w e (c .row) a (omega (arith, walk-marks .all i)))
+          agrees : (i b : ℕ) → getD ms i 0 ≡ suc b → Planted (a .arities) (P .row) (P .table) b (at-marks i)
+          agrees i b y =
+              let same : b ≡ getD ms i 0 - 1 = omega arith in
+              subst (λ (n : ℕ). Planted (a .arities) (P .row) (P .table) b (subtreeAt (parse (a .arities) (P .row)) n)) same (planted-at (a .arities) (P .row) (P .table) (c .row) b (omega (arith, walk-marks .all i)))
 
       -- NO OTHER TREE WOULD DO: whatever choice turns the pattern into the subtree, a marked variable stands for the
       -- subtree at its mark
-      pub only : (m : MatchesAt A w q p) (i a : ℕ) → getD ms i 0 ≡ suc a → m .choice .forVariable i ≡ subtreeAt (parse A w) a
-      only m i a y =
-          let c′ = walk-comes (m .choice .forVariable) (matches-fits (treeOf A q) under m) in
+      pub only : (m : MatchesAt a (P .row) q p) (i b : ℕ) → getD ms i 0 ≡ suc b → m .choice .forVariable i ≡ subtreeAt (parse (a .arities) (P .row)) b
+      only m i b y =
+          let c′ = walk-comes (m .choice .forVariable) (matches-fits (treeOf (a .arities) q) under m) in
           let same : ms ≡ c′ .1 = cc (z, c′ .2) in
-          planted-once A w e a _ _ (c′ .3 .all i a (ap (λ (u : List ℕ). getD u i 0) (sym same) ∙ y))
-          (planted-at A w e (c .row) a (omega (arith, y, walk-marks .all i)))
+          planted-once (a .arities) (P .row) (P .table) b _ _ (c′ .3 .all i b (ap (λ (u : List ℕ). getD u i 0) (sym same) ∙ y))
+          (planted-at (a .arities) (P .row) (P .table) (c .row) b (omega (arith, y, walk-marks .all i)))
 
-      pub walk-matches : MatchesAt A w q p
-      walk-matches = fits-matches at-marks (treeOf A q) under walk-fits
+      pub walk-matches : MatchesAt a (P .row) q p
+      walk-matches = fits-matches at-marks (treeOf (a .arities) q) under walk-fits
 
     -- THE WALK IS RIGHT: it comes through exactly if some choice turns the pattern into the subtree
-    pub right : (comesThrough w e q p ≡ true) ↔ MatchesAt A w q p
+    pub right : (comesThrough (P .row) (P .table) q p ≡ true) ↔ MatchesAt a (P .row) q p
     right = (
-      λ y. (let r = came (walk w e q p unmarked) y in walk-matches (r .0) (r .1) (r .2)),
-      λ m. ap through (walk-comes (m .choice .forVariable) (matches-fits (treeOf A q) under m) .2),
+      λ y. (let r = came (walk (P .row) (P .table) 0 q p unmarked) y in walk-matches (r .0) (r .1) (r .2)),
+      λ m. ap through (walk-comes (m .choice .forVariable) (matches-fits (treeOf (a .arities) q) under m) .2),
     )
 
     -- where it misses, there is no match
-    pub missed : (k : ℕ) → walk w e q p unmarked ≡ misses k → MatchesAt A w q p → ⊥
-    missed k z m = let y = right .1 m in let x : _≡_ {A = ℕ} 0 1 = cc (ap through z) in omega arith
+    pub missed : (k x : ℕ) → walk (P .row) (P .table) 0 q p unmarked ≡ misses k x → MatchesAt a (P .row) q p → ⊥
+    missed k x z m = let y = right .1 m in let n : _≡_ {A = ℕ} 0 1 = cc (ap through z) in omega arith

@@ -2,4 +2,3 @@ pub mod Pattern
 pub mod Answers
 pub mod Searchable
 pub mod Walk
-pub mod Promises

@@ -3,13 +3,14 @@ use Prim.Native.Nat.{ℕ, _+_, _-_}
 use mathlib.Core.Path.{_≡_}
 use lib.Dec.{eqb}
 use Rattle.rows.specs.Tree.{Forest, Forest.none, Forest.grow, Tree, single, size}
+use Rattle.rows.specs.Limits.{blank, firstVariable}
 use Rattle.rows.specs.Row.{pick, isVariable}
 use Rattle.patterns.specs.declared.Leaf.{Leaf}
 use Rattle.patterns.specs.declared.Leaf.the-variants.{Plain, Blank, Variable}
 
--- what a number of a pattern stands for: 65535 is the blank S, 65280 is X0 and so on to X15, any other stands for itself
+-- what a number of a pattern stands for: the blank, X0 and the numbers after it up to X15, any other for itself
 unfoldable pub leaf : ℕ → Leaf
-leaf s = pick (eqb s 65535) Blank (pick (isVariable s) (Variable (s - 65280)) Plain)
+leaf s = pick (eqb s blank) Blank (pick (isVariable s) (Variable (s - firstVariable)) Plain)
 
 -- a tree for each S, by the position of that S in the pattern, and a tree for each variable, by its number
 pub record Choice : Type 0 where
@@ -32,6 +33,6 @@ filled ch b none = none
 filled ch b (grow s cs f) = plug ch b s (leaf s) (filled ch (b + 1) cs) (filled ch (b + size cs + 1) f)
 
 -- some choice turns the pattern into the tree
-pub record Matches (P t : Tree) : Type 0 where
+pub record Match (P t : Tree) : Type 0 where
   pub choice : Choice
   pub turns : filled choice 0 (single P) ≡ single t

@@ -1,17 +1,19 @@
 // Patterns: what a number of a pattern stands for, the check of a pattern, and one step of the walk along it over a row with
-// its table.
+// its table. A step that fails says where: at which place of the pattern, and at which position of the row.
 ghost use mathlib.Core.Path.{_≡_};
-ghost use mathlib.Core.List.{List};
 ghost use mathlib.Core.Bool.{false};
-ghost use Prim.Native.Nat.{ℕ, _+_, _≤_, _<_};
-ghost use lib.ListN.{length, take, drop, getD};
+ghost use Prim.Native.Nat.{_+_, _≤_, _<_};
+ghost use lib.ListN.{length, getD};
 ghost use Rattle.rows.specs.Refusals.{pattern};
 ghost use Rattle.patterns.specs.Pattern.{leaf};
-ghost use Rattle.patterns.specs.Walk.{sameSymbol, sameFront, meets, steps, Ends, MarksIn, Meetable, Done};
+ghost use Rattle.patterns.specs.Walk.{sameSymbol, agreeing, meets, steps, Ends, MarksIn, Meetable, Stepping};
 use rows::Check;
 use rows::Leaves;
 use rows::Refusal;
 use rows::Verdict;
+
+// A mark for each variable.
+pub const MARKS: usize = rows::VARIABLES as usize;
 
 // What a number of a pattern stands for: itself, any subtree, or the subtree of a variable.
 pub enum Leaf {
@@ -23,11 +25,11 @@ pub enum Leaf {
 pub fn leaf_of(s: u16) -> Leaf
     ensures { λ r. ⌜ r ≡ leaf s ⌝ }
 {
-    if s == 65535 {
+    if s == rows::BLANK {
         return Leaf::Blank;
     }
     if rows::is_variable(s) {
-        return Leaf::Variable((s - 65280) as usize);
+        return Leaf::Variable((s - rows::FIRST_VARIABLE) as usize);
     }
     Leaf::Plain
 }
@@ -36,7 +38,7 @@ pub fn leaf_of(s: u16) -> Leaf
 pub fn check_pattern(arities: &[u16], list: &[u16]) -> Check
     ensures { λ r. ⌜ r ≡ pattern (now (arities .entry)) (now (list .entry)) ⌝ }
 {
-    match rows::check_reading(arities, list, Leaves::Blanks, 256) {
+    match rows::check_reading(arities, list, Leaves::Blanks, rows::PATTERN_MOST) {
         Verdict::Faulty(f) => Check::Refused(Refusal::Pattern(f)),
         Verdict::Whole => Check::Fine,
     }
@@ -52,7 +54,7 @@ pub fn same(x: u16, y: u16) -> bool
 // How many of the n symbols from a on are the same as those from b on: left at the first that differs.
 fn count_singly(row: &[u16], a: usize, b: usize, n: usize) -> usize
     requires { ⌜ (a + n ≤ length (now row)) × (b + n ≤ length (now row)) ⌝ }
-    ensures { λ r. ⌜ r ≡ sameFront (take n (drop a (now (row .entry)))) (take n (drop b (now (row .entry)))) ⌝ }
+    ensures { λ r. ⌜ r ≡ agreeing (now (row .entry)) a b n ⌝ }
 {
     let mut i = 0;
     while i < n {
@@ -68,7 +70,7 @@ fn count_singly(row: &[u16], a: usize, b: usize, n: usize) -> usize
 // The same, eight symbols a turn: the compiler writes a count of eight out.
 fn count_same(row: &[u16], a: usize, b: usize, n: usize) -> usize
     requires { ⌜ (a + n ≤ length (now row)) × (b + n ≤ length (now row)) ⌝ }
-    ensures { λ r. ⌜ r ≡ sameFront (take n (drop a (now (row .entry)))) (take n (drop b (now (row .entry)))) ⌝ }
+    ensures { λ r. ⌜ r ≡ agreeing (now (row .entry)) a b n ⌝ }
 {
     let mut i = 0;
     while i + 8 <= n {
@@ -81,18 +83,32 @@ fn count_same(row: &[u16], a: usize, b: usize, n: usize) -> usize
     i + count_singly(row, a + i, b + i, n - i)
 }
 
-// What a symbol of the pattern finds in the row: the position after what it stands for, or the position where it does
-// not fit.
+// What a number of the pattern finds in the row: the position after what it stands for; or its place in the pattern, and the
+// position of the row where it does not fit.
 pub enum Stepped {
     To(usize),
-    Miss(usize),
+    Miss(usize, usize),
 }
 
-// Variable i at row position j, where a subtree stands up to `end`. At its first place it is marked; at a later one the
-// subtree of the first stands again.
-pub fn meet(row: &[u16], i: usize, j: usize, end: usize, marks: &mut [u16; 16]) -> Stepped
+// What a walk along the whole pattern finds: it comes through; or the place of the pattern and the position of the row where
+// it fails.
+pub enum Walked {
+    Through,
+    Fails(usize, usize),
+}
+
+// Variable i at place k of the pattern and row position j, where a subtree stands up to `end`. At its first place it is
+// marked; at a later one the subtree of the first stands again.
+pub fn meet(
+    row: &[u16],
+    i: usize,
+    k: usize,
+    j: usize,
+    end: usize,
+    marks: &mut [u16; MARKS],
+) -> Stepped
     requires { ⌜ Meetable (now row) i j end (now marks) ⌝ }
-    ensures { λ r. ⌜ ((e : List ℕ) → getD e j 0 ≡ end → Done (meets (now (row .entry)) e j (now (marks .entry)) i (getD (now (marks .entry)) i 0)) (now (marks .entry)) r (now (marks .exit))) ⌝ }
+    ensures { λ r. ⌜ Stepping (meets (now (row .entry)) end k j (now (marks .entry)) i (getD (now (marks .entry)) i 0)) (now (marks .entry)) r (now (marks .exit)) ⌝ }
 {
     let mark = marks[i] as usize;
     if mark == 0 {
@@ -104,18 +120,25 @@ pub fn meet(row: &[u16], i: usize, j: usize, end: usize, marks: &mut [u16; 16]) 
     if equal == n {
         return Stepped::To(end);
     }
-    Stepped::Miss(j + equal)
+    Stepped::Miss(k, j + equal)
 }
 
-// One symbol of the pattern at row position j, where another symbol stands: only S and a variable can fit.
-pub fn step(row: &[u16], table: &[u16], s: u16, j: usize, marks: &mut [u16; 16]) -> Stepped
+// The number s at place k of the pattern at row position j, where another symbol stands: only S and a variable can fit.
+pub fn step(
+    row: &[u16],
+    table: &[u16],
+    k: usize,
+    s: u16,
+    j: usize,
+    marks: &mut [u16; MARKS],
+) -> Stepped
     requires { ⌜ Ends (now row) (now table) × MarksIn j (now marks) × (j < length (now row)) × (sameSymbol (getD (now row) j 0) s ≡ false) ⌝ }
-    ensures { λ r. ⌜ Done (steps (now (row .entry)) (now (table .entry)) s j (now (marks .entry))) (now (marks .entry)) r (now (marks .exit)) ⌝ }
+    ensures { λ r. ⌜ Stepping (steps (now (row .entry)) (now (table .entry)) k s j (now (marks .entry))) (now (marks .entry)) r (now (marks .exit)) ⌝ }
 {
     let kind = leaf_of(s);
     match kind {
-        Leaf::Plain => Stepped::Miss(j),
+        Leaf::Plain => Stepped::Miss(k, j),
         Leaf::Blank => Stepped::To(table[j] as usize),
-        Leaf::Variable(i) => meet(row, i, j, table[j] as usize, marks),
+        Leaf::Variable(i) => meet(row, i, k, j, table[j] as usize, marks),
     }
 }

@@ -1,41 +1,61 @@
+-- Inside: no public contract cites what stands in this file, and no reader has to believe it.
 -- What the searches of this crate ask for, and what they promise to the public calls.
 use Prim.Native.Nat.{ℕ, _≤_, _<_}
 use mathlib.Core.Path.{_≡_}
 use mathlib.Core.List.{List}
-use mathlib.Core.Bool.{Bool, true}
-use mathlib.Core.Logic.{_↔_}
-use lib.Dec.{leb}
 use lib.ListN.{length}
-use Rattle.rows.specs.Row.{pick}
+use Rattle.rows.specs.Programme.{Alphabet, Programme}
+use Rattle.rows.specs.Parse.{table}
 use Rattle.rows.specs.Buffers.{written}
 use Rattle.patterns.specs.Answers.{MatchesAt, Listed, spans}
 use Rattle.patterns.specs.Searchable.{Checked}
+use Rattle.patterns.specs.Walk.{walk, unmarked, Decides, afterWalk}
+use Rattle.patterns.specs.declared.Walked.{Walked}
+use Rattle.searches.specs.declared.Next.{Next}
+use Rattle.searches.specs.declared.Next.the-variants.{At, Nowhere}
+use Rattle.searches.specs.declared.Listing.{Listing}
+use Rattle.searches.specs.declared.Listing.the-variants.{All, Needs}
 
--- `r` is the first match from `from` on, or the row's length if there is none
-pub record Next (A w q : List ℕ) (from r : ℕ) : Type 0 where
-  pub on : from ≤ r
-  pub within : r ≤ length w
-  pub none-between : (p : ℕ) → from ≤ p → p < r → MatchesAt A w q p → ⊥
-  pub here : r < length w → MatchesAt A w q r
+-- p is the first match from `from` on
+pub record FirstFrom (a : Alphabet) (w q : List ℕ) (from p : ℕ) : Type 0 where
+  pub on : from ≤ p
+  pub within : p < length w
+  pub here : MatchesAt a w q p
+  pub none-between : (x : ℕ) → from ≤ x → x < p → MatchesAt a w q x → ⊥
+
+-- there is none from `from` on
+abbrev pub NoneFrom : Alphabet → List ℕ → List ℕ → ℕ → Type 0
+NoneFrom a w q from = (x : ℕ) → from ≤ x → x < length w → MatchesAt a w q x → ⊥
+
+-- what the search for the next match answers
+abbrev pub NextIs : Alphabet → List ℕ → List ℕ → ℕ → Next → Type 0
+NextIs a w q from (At p) = FirstFrom a w q from p
+NextIs a w q from Nowhere = NoneFrom a w q from
 
 -- `r` is the number of all matches
-pub record Counts (A w q : List ℕ) (r : ℕ) : Type 0 where
+pub record Counts (a : Alphabet) (w q : List ℕ) (r : ℕ) : Type 0 where
   pub positions : List ℕ
-  pub listed : Listed A w q (length w) positions
+  pub listed : Listed a w q (length w) positions
   pub many : r ≡ length positions
 
--- `r` is the number of all matches; they are written at the front of the buffer y if it has room for all of them
-pub record Lists (A w q y : List ℕ) (r : ℕ) (y′ : List ℕ) : Type 0 where
+-- What is told of the list ps, for a buffer y that then holds y′: all is written at the buffer's front; or nothing is, since
+-- more places are needed.
+abbrev pub ListTold : List ℕ → List ℕ → Listing → List ℕ → Type 0
+ListTold ps y (All n) y′ = (n ≡ length ps) × (n ≤ length y) × (y′ ≡ written y 0 ps)
+ListTold ps y (Needs n) y′ = (n ≡ length ps) × (length y < n) × (y′ ≡ y)
+
+-- that is told of the list of all matches
+pub record Lists (a : Alphabet) (w q y : List ℕ) (r : Listing) (y′ : List ℕ) : Type 0 where
   pub positions : List ℕ
-  pub listed : Listed A w q (length w) positions
-  pub many : r ≡ length positions
-  pub buffer : y′ ≡ pick (leb r (length y)) (written y 0 positions) y
+  pub listed : Listed a w q (length w) positions
+  pub told : ListTold positions y r y′
 
 -- n places are room for all matches
-abbrev pub Room : List ℕ → List ℕ → List ℕ → ℕ → Type 0
-Room w t q n = (A ps : List ℕ) → Checked A w t q → Listed A w q (length w) ps → length ps ≤ n
+abbrev pub RoomFor : Programme → List ℕ → ℕ → Type 0
+RoomFor P q n = (a : Alphabet) (ps : List ℕ) → Checked a P q → Listed a (P .row) q (length (P .row)) ps → length ps ≤ n
 
--- `r` says whether the pattern matches at p; if so, the spans of its variables are written at the front of the buffer y
-pub record Binds (A w q : List ℕ) (p : ℕ) (y : List ℕ) (r : Bool) (y′ : List ℕ) : Type 0 where
-  pub answer : (r ≡ true) ↔ MatchesAt A w q p
-  pub buffer : y′ ≡ pick r (written y 0 (spans A w q p)) y
+-- `r` says whether the pattern matches at p, and where the walk over the row and its own table fails; if it matches, the spans
+-- of its variables are written at the front of the buffer y
+pub record VariablesAt (a : Alphabet) (w q : List ℕ) (p : ℕ) (y : List ℕ) (r : Walked) (y′ : List ℕ) : Type 0 where
+  pub answer : Decides (MatchesAt a w q p) (walk w (table (a .arities) w) 0 q p unmarked) r
+  pub buffer : y′ ≡ afterWalk r (written y 0 (spans (a .arities) w q p)) y

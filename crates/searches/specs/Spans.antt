@@ -1,4 +1,5 @@
--- The method of the search for variables: what is written for the marks of a walk. No reader of a public contract needs it.
+-- Inside: no public contract cites what stands in this file, and no reader has to believe it.
+-- The method of the search for variables: what is written for the marks of a walk.
 use Prim.Native.Nat.{ℕ, zero, suc}
 use mathlib.Core.List.{List, [], _∷_, _++_}
 use lib.ListN.{getD}

@@ -33,7 +33,7 @@ element-write-marks c = search needs
 returns : tie.Need-returns
 returns c =
     let g = c .before .before .before .args in
-    λ e y. met-first (g .row .now) e (g .j) (g .end) y (g .marks .now) (g .i) (c .if1 .taken)
+    met-first (g .row .now) (g .end) (g .k) (g .j) (g .marks .now) (g .i) (c .if1 .taken)
 
 sub-n : tie.Need-sub-n
 sub-n c = search needs
@@ -49,10 +49,10 @@ count-same-requires c κs =
 returns-2 : tie.Need-returns-2
 returns-2 c =
     let g = c .before .before .before .before .before .args in
-    λ e y. met-same (g .row .now) e (g .j) (g .end) y (g .marks .now) (g .i) (c .before .before .if1 .left) _ (c .before .count-same .ensures) (c .if2 .taken)
+    met-same (g .row .now) (g .end) (g .k) (g .j) (g .marks .now) (g .i) (c .before .before .if1 .left) _ (c .before .count-same .ensures) (c .if2 .taken)
 
-add-t9 : tie.Need-add-t9
-add-t9 c =
+add-t10 : tie.Need-add-t10
+add-t10 c =
     let s = c .before .before .before .before .before in
     let g = s .args in
     omega (
@@ -64,7 +64,7 @@ add-t9 c =
 returns-3 : tie.Need-returns-3
 returns-3 c =
     let g = c .before .before .before .before .before .args in
-    λ e y. met-other (g .row .now) e (g .j) (g .end) y (g .marks .now) (g .i) (c .before .before .if1 .left) _ (c .before .count-same .ensures) (c .if2 .left)
+    met-other (g .row .now) (g .end) (g .k) (g .j) (g .marks .now) (g .i) (c .before .before .if1 .left) _ (c .before .count-same .ensures) (c .if2 .left)
 
 pub meet-spec : {M : Type 1} → statement M
 meet-spec =
@@ -82,5 +82,5 @@ meet-spec =
     sub-count-same
     count-same-requires
     returns-2
-    add-t9
+    add-t10
     returns-3)

@@ -1,6 +1,6 @@
 -- `patterns::step` meets its contract, by the kind of the number.
 -- Assumes nothing.
-use mathlib.Core.Path.{refl, sym, _∙_}
+use mathlib.Core.Path.{sym, _∙_}
 use native.Mathlib.Omega.{arith}
 use lib.ListN.{getD}
 use Rattle.patterns.specs.Walk.{Outcome.misses, Outcome.reaches}
@@ -18,14 +18,14 @@ enum-told c = search needs
 enum-told-2 : tie.Need-enum-told-2
 enum-told-2 c = search needs
 
-mul-t9 : tie.Need-mul-t9
-mul-t9 c = search needs
+mul-t10 : tie.Need-mul-t10
+mul-t10 c = search needs
 
-shared-slice-read-t11 : tie.Need-shared-slice-read-t11
-shared-slice-read-t11 c = search needs
+shared-slice-read-t12 : tie.Need-shared-slice-read-t12
+shared-slice-read-t12 c = search needs
 
-cast-t12 : tie.Need-cast-t12
-cast-t12 c = omega (arith, c .shared-slice-known3 .given (c .before .before .before .before .before .before .args .j))
+cast-t13 : tie.Need-cast-t13
+cast-t13 c = omega (arith, c .shared-slice-known3 .given (c .before .before .before .before .before .before .args .j))
 
 enum-known-kind : tie.Need-enum-known-kind
 enum-known-kind c = search needs
@@ -53,22 +53,22 @@ meet-requires c κs =
 returns : tie.Need-returns
 returns c =
     let l = c .before .before in let s = l .before .before .before in let g = s .args in
-    answers _ (misses (g .j)) (g .marks .now)
-    (steps-plain (g .row .now) (g .table .now) (g .s) (g .j) (g .marks .now) (s .pre .3) (sym (l .leaf-of .ensures) ∙ c .enum-told .given .1))
+    answers _ (misses (g .k) (g .j)) (g .marks .now)
+    (steps-plain (g .row .now) (g .table .now) (g .k) (g .s) (g .j) (g .marks .now) (s .pre .3) (sym (l .leaf-of .ensures) ∙ c .enum-told .given .1))
 
 returns-2 : tie.Need-returns-2
 returns-2 c =
     let l = c .before .before .before in let s = l .before .before .before in let g = s .args in
     answers _ (reaches (getD (g .table .now) (g .j) 0) (g .marks .now)) (g .marks .now)
-    (steps-blank (g .row .now) (g .table .now) (g .s) (g .j) (g .marks .now) (s .pre .3) (sym (l .leaf-of .ensures) ∙ c .before .enum-told2 .given .1))
+    (steps-blank (g .row .now) (g .table .now) (g .k) (g .s) (g .j) (g .marks .now) (s .pre .3) (sym (l .leaf-of .ensures) ∙ c .before .enum-told2 .given .1))
 
 returns-3 : tie.Need-returns-3
 returns-3 c =
     let l = c .before .before .before .before .before .before in let s = l .before .before .before in let g = s .args in
     answers-at _ _ (g .marks .now) (c .meet .result) _
-    (steps-variable (g .row .now) (g .table .now) (g .s) (g .j) (g .marks .now) (s .pre .3) _
+    (steps-variable (g .row .now) (g .table .now) (g .k) (g .s) (g .j) (g .marks .now) (s .pre .3) _
     (sym (l .leaf-of .ensures) ∙ c .before .before .before .before .kind .given .1))
-    (c .meet .ensures (g .table .now) refl)
+    (c .meet .ensures)
 
 pub step-spec : {M : Type 1} → statement M
 step-spec =
@@ -77,9 +77,9 @@ step-spec =
     leaf-of-requires
     enum-told
     enum-told-2
-    mul-t9
-    shared-slice-read-t11
-    cast-t12
+    mul-t10
+    shared-slice-read-t12
+    cast-t13
     enum-known-kind
     mul-meet
     shared-slice-read-meet
