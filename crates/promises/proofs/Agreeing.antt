@@ -1,27 +1,31 @@
 -- The checks that find and the plain matcher share: with the table that build leaves they refuse the same up to 15.
 -- Assumes nothing.
-use Prim.Native.Nat.{ℕ, _+_, _≤_}
+use Prim.Native.Nat.{ℕ, _+_, _≤_, min}
 use mathlib.Core.Path.{_≡_, refl, sym, ap, ap₂, _∙_}
 use mathlib.Core.List.{List}
 use native.Mathlib.Omega.{arith}
 use borrow.Author.Tests.{le-ltb}
-use lib.Dec.{ltb}
-use lib.ListN.{length, drop}
+use lib.ListN.{length, take, drop}
+use lib.Seq.{take-all}
+use Rattle.rows.specs.Limits.{rowMost}
+use Rattle.rows.specs.Programme.{Alphabet, Programme, room}
 use Rattle.rows.specs.Parse.{table}
-use Rattle.rows.specs.Row.{pick, sized, verdict, allowed, orElse, reading}
+use Rattle.rows.specs.Row.{sized, verdict, allowed, orElse, reading}
 use Rattle.rows.specs.Buffers.{written, after}
-use Rattle.rows.specs.Refusals.{_then_, asRow, alphabet, sizes, symbols, fresh, kept, given, pattern, position}
+use Rattle.rows.specs.Refusals.{_then_, refuseIf, asKept, alphabet, sizes, symbols, fresh, kept, given, pattern, position}
 use Rattle.rows.specs.declared.Leaves.the-variants.{Symbols}
 use Rattle.rows.specs.declared.Verdict.{Verdict}
 use Rattle.rows.specs.declared.Verdict.the-variants.{Whole, Faulty}
-use Rattle.rows.specs.declared.Refusal.the-variants.{BufferShort}
+use Rattle.rows.specs.declared.Kept.{Kept}
+use Rattle.rows.specs.declared.Refusal.{Refusal}
+use Rattle.rows.specs.declared.Refusal.the-variants.{Row}
 use Rattle.rows.specs.declared.Check.{Check}
 use Rattle.rows.specs.declared.Check.the-variants.{Fine, Refused}
 use Rattle.rows.proofs.Entry.{length-table}
-use Rattle.tables.proofs.Differ.{differs-same}
 use Rattle.rows.proofs.Buffers.{length-written}
-use Rattle.checks.specs.Checks.{buildCheck, rowCheck, plainCheck, searchCheck}
-use Rattle.sparrowhem.specs.Build.{Built}
+use Rattle.tables.proofs.Differ.{differs-same}
+use Rattle.checks.specs.Checks.{buildCheck, plainCheck, searchCheck}
+use Rattle.sparrowhem.specs.Build.{built, Built}
 
 pub then-then : (a b c : Check) → _then_ (_then_ a b) c ≡ a then b then c
 then-then Fine b c = refl
@@ -31,62 +35,90 @@ pub then-fine : (a : Check) → _then_ a Fine ≡ a
 then-fine Fine = refl
 then-fine (Refused r) = refl
 
-pub both-rows : (a b : Verdict) → asRow (orElse a b) ≡ asRow a then asRow b
-both-rows Whole b = refl
-both-rows (Faulty f) b = refl
+both-rows : (whose : Kept → Refusal) (a b : Verdict) → asKept whose (orElse a b) ≡ asKept whose a then asKept whose b
+both-rows whose Whole b = refl
+both-rows whose (Faulty f) b = refl
+
+-- 1 to 5 and 7 to 9: the alphabet, and a row by itself
+abbrev pub rowCheck : Alphabet → List ℕ → Check
+rowCheck a w = alphabet a then asKept Row (reading (a .arities) Symbols rowMost w)
 
 -- with m places that are room enough, the checks of sizes and symbols are those of the row alone
-row-alone : (A w : List ℕ) (m : ℕ) → length w ≤ m → sizes (length w) m then symbols A w ≡ asRow (reading A Symbols 16384 w)
+row-alone : (A w : List ℕ) (m : ℕ) → length w ≤ m → sizes Row (length w) m then symbols Row A w ≡ asKept Row (reading A Symbols rowMost w)
 unfolding sizes symbols reading
 row-alone A w m h =
-    let room : pick (ltb m (length w)) (Refused (BufferShort (length w))) Fine ≡ Fine = rw (le-ltb m (length w) h) refl in
-    let size : Check = asRow (sized (length w) 16384) in
-    ap (λ (c : Check). (size then c) then symbols A w) room
-    ∙ ap (λ (c : Check). c then symbols A w) (then-fine size)
-    ∙ sym (both-rows (sized (length w) 16384) (verdict A (allowed Symbols A) 1 0 w))
+    let size : Check = asKept Row (sized (length w) rowMost) in
+    rw (le-ltb m (length w) h)
+    (ap (λ (c : Check). c then symbols Row A w) (then-fine size)
+    ∙ sym (both-rows Row (sized (length w) rowMost) (verdict A (allowed Symbols A) 1 0 w)))
 
-build-row : (A w : List ℕ) (m : ℕ) → length w ≤ m → buildCheck A w m ≡ rowCheck A w
-unfolding buildCheck rowCheck
-build-row A w m h = ap (λ (c : Check). alphabet A then c) (row-alone A w m h)
+pub build-row : (a : Alphabet) (P : Programme) → length (P .row) ≤ room P → buildCheck a P ≡ rowCheck a (P .row)
+unfolding buildCheck
+build-row a P h = ap (λ (c : Check). alphabet a then c) (row-alone (a .arities) (P .row) (room P) h)
 
-pub given-row : (A w t : List ℕ) → length w ≤ length t → given A w t ≡ rowCheck A w then fresh A w t
-unfolding given kept rowCheck
-given-row A w t h =
-    ap (λ (c : Check). alphabet A then c)
-    (sym (then-then (sizes (length w) (length t)) (symbols A w) (fresh A w t))
-    ∙ ap (λ (c : Check). c then fresh A w t) (row-alone A w (length t) h))
-    ∙ sym (then-then (alphabet A) (asRow (reading A Symbols 16384 w)) (fresh A w t))
+pub given-row : (a : Alphabet) (P : Programme) → length (P .row) ≤ room P
+    → given a P (length (P .row)) ≡ rowCheck a (P .row) then fresh Row (a .arities) (P .row) (P .table)
+unfolding given kept
+given-row a P h =
+    let A : List ℕ = a .arities in
+    let w : List ℕ = P .row in
+    ap (λ (l : List ℕ). alphabet a then sizes Row (length w) (room P) then symbols Row A l then fresh Row A l (P .table)) (take-all (length w) w (omega arith))
+    ∙ ap (λ (c : Check). alphabet a then c)
+    (sym (then-then (sizes Row (length w) (room P)) (symbols Row A w) (fresh Row A w (P .table)))
+    ∙ ap (λ (c : Check). c then fresh Row A w (P .table)) (row-alone A w (room P) h))
+    ∙ sym (then-then (alphabet a) (asKept Row (reading A Symbols rowMost w)) (fresh Row A w (P .table)))
 
--- the table that build leaves of one that is long enough
-module _ (A w old : List ℕ) (build : Check) (t : List ℕ) (long : length w ≤ length old) (b : Built A w old build t) where
-  checked : buildCheck A w (length old) ≡ rowCheck A w
-  checked = build-row A w (length old) long
+-- the lists that build leaves of such as are long enough
+module _ (a : Alphabet) (old : Programme) (build : Check) (P : Programme) (long : length (old .row) ≤ room old) (b : Built a old build P) where
+  abbrev A : List ℕ
+  A = a .arities
 
-  left : t ≡ after (rowCheck A w) (written old 0 (table A w)) old
-  left = b .table ∙ ap (λ (c : Check). after c (written old 0 (table A w)) old) checked
+  abbrev w : List ℕ
+  w = old .row
 
-  given-left : given A w t ≡ rowCheck A w
-  unfolding fresh written
-  given-left = go (rowCheck A w) refl
+  checked : buildCheck a old ≡ rowCheck a w
+  checked = build-row a old long
+
+  left : P ≡ after (rowCheck a w) (built a old) old
+  left = b .lists ∙ ap (λ (c : Check). after c (built a old) old) checked
+
+  -- the row stays, and the table keeps its length
+  pub left-row : P .row ≡ w
+  left-row = go (rowCheck a w) left
     where
-      go : (c : Check) → rowCheck A w ≡ c → given A w t ≡ rowCheck A w
-      go Fine e =
-          let is : t ≡ written old 0 (table A w) = left ∙ ap (λ (c : Check). after c (written old 0 (table A w)) old) e in
-          let same : length t ≡ length old =
-          ap length is ∙ length-written old 0 (table A w) (omega (arith, length-table A w)) in
-          given-row A w t (omega arith)
-          ∙ ap₂ _then_ e (ap (fresh A w) is ∙ differs-same 0 (table A w) (drop (0 + length (table A w)) old))
-          ∙ sym e
-      go (Refused x) e =
-          let is : t ≡ old = left ∙ ap (λ (c : Check). after c (written old 0 (table A w)) old) e in
-          let same : length t ≡ length old = ap length is in
-          given-row A w t (omega arith) ∙ ap (λ (c : Check). c then fresh A w t) e ∙ sym e
+      go : (c : Check) → P ≡ after c (built a old) old → P .row ≡ w
+      go Fine e = ap (λ (x : Programme). x .row) e
+      go (Refused x) e = ap (λ (x : Programme). x .row) e
+
+  pub given-left : given a P (length (P .row)) ≡ rowCheck a (P .row)
+  unfolding fresh written
+  given-left = go (rowCheck a w) refl left
+    where
+      row-too : rowCheck a (P .row) ≡ rowCheck a w
+      row-too = ap (rowCheck a) left-row
+
+      go : (c : Check) → rowCheck a w ≡ c → P ≡ after c (built a old) old → given a P (length (P .row)) ≡ rowCheck a (P .row)
+      go Fine e is =
+          let table-is : P .table ≡ written (old .table) 0 (table A w) = ap (λ (x : Programme). x .table) is in
+          let same : length (P .table) ≡ length (old .table) =
+          ap length table-is ∙ length-written (old .table) 0 (table A w) (omega (arith, length-table A w)) in
+          let row-long = ap length left-row in
+          given-row a P (omega arith)
+          ∙ ap₂ _then_ (row-too ∙ e) (ap₂ (fresh Row A) left-row table-is ∙ differs-same Row 0 (table A w) (drop (0 + length (table A w)) (old .table)))
+          ∙ sym (row-too ∙ e)
+      go (Refused x) e is =
+          let same : length (P .table) ≡ length (old .table) = ap (λ (x : Programme). length (x .table)) is in
+          let row-long = ap length left-row in
+          given-row a P (omega arith) ∙ ap (λ (c : Check). c then fresh Row A (P .row) (P .table)) (row-too ∙ e) ∙ sym (row-too ∙ e)
 
   -- what both look at first
-  pub search-left : (q : List ℕ) → searchCheck A w t q ≡ rowCheck A w then pattern A q
+  pub search-left : (q : List ℕ) → searchCheck a P q ≡ rowCheck a (P .row) then pattern A q
   unfolding searchCheck
   search-left q = ap (λ (c : Check). c then pattern A q) given-left
 
-pub plain-left : (A w q : List ℕ) (p : ℕ) → plainCheck A w q p ≡ (rowCheck A w then pattern A q) then position (length w) p
+pub plain-left : (a : Alphabet) (w q : List ℕ) (p : ℕ) → plainCheck a w q p ≡ (rowCheck a w then pattern (a .arities) q) then position (length w) p
 unfolding plainCheck
-plain-left A w q p = sym (then-then (rowCheck A w) (pattern A q) (position (length w) p))
+plain-left a w q p =
+    let row : Check = asKept Row (reading (a .arities) Symbols rowMost w) in
+    let rest : Check = position (length w) p in
+    sym (then-then (alphabet a) row (pattern (a .arities) q then rest)) ∙ sym (then-then (rowCheck a w) (pattern (a .arities) q) rest)

@@ -1,241 +1,174 @@
--- The three demands on Sparrowhem, each sentence as a theorem about the public calls. Each statement is proved in
--- proofs/Demands, under the same name in small letters; the record `Demands` at the end holds them all.
+-- The three demands on Sparrowhem (docs/SCOPE.md), each sentence as a theorem about the public calls. Each statement is proved in
+-- proofs/Demand1, Demand2 or Demand3, under the same name in small letters; the record `Demands` at the end holds them all.
 --
--- A contract says which answer, and which contents of the lent buffers afterwards, a call may have: `Built`, `Finds`,
--- `Binds` (the variables call), `Replacement`, `subtreePart` with its companion `subtreeAnswer`, `NewerPart` with its companion
--- `NewestSays`, and `PlainSays`, all in crates/sparrowhem/specs. That the code ends and meets its contract on every input is the
--- call's own proof there (`build-spec`, `find-spec` and so on); this file says what the contracts come to.
+-- A contract says which answer, and which contents of the lent lists afterwards, a call may have: `Built`, `Finds`, `Binds` (the
+-- variables call), `Replacement`, `subtreePart` with its companion `subtreeAnswer`, `NewerPart` with its companion `NewestSays`, and
+-- `PlainSays`, all in crates/sparrowhem/specs. That the code ends and meets its contract on every input is the call's own proof there
+-- (`build-spec`, `find-spec` and so on); this file says what the contracts come to.
 --
--- To be read with crates/rows/specs, Pattern and Answers of crates/patterns/specs, Put of crates/edits/specs, crates/sparrowhem/specs,
--- and beside this file Runs and Numbers, and Calls, Plain and Edits for the statements that are only named here.
---
--- A is the alphabet, w the row, t its table, q the pattern, p the position, y the output, r the answer; in a replacement n is the
--- row length and v the replacement; v and u are also the row on record and its table. ′ marks what a buffer holds afterwards.
-use Prim.Native.Nat.{ℕ, _+_, _-_, _<_, _≤_, min}
+-- a is the alphabet, P a row with what is kept beside it, q the pattern, p the position, y the output, r the answer; in a replacement
+-- n is the row length and v the replacement; O is the row on record with what is kept beside it. ′ marks what a list holds afterwards.
+use Prim.Native.Nat.{ℕ, _+_, _-_, _<_, _≤_, max}
 use mathlib.Core.Path.{_≡_}
-use mathlib.Core.List.{List, List·Memᴰ, map}
+use mathlib.Core.List.{List, [], _∷_, List·Memᴰ, map}
 use mathlib.Core.Logic.{_↔_, _⊎_}
-use lib.Dec.{ltb}
+use lib.Dec.{ltb, eqb}
 use lib.ListN.{length, getD, take, drop}
-use lib.IntN.{ℤ}
-use Rattle.rows.specs.Tree.{Forest, IsRow, single, size, prefix, subtreeAt}
-use Rattle.rows.specs.Parse.{table}
-use Rattle.rows.specs.Row.{pick, symbol, allowed, sized}
-use Rattle.refusal_numbers.specs.Numbers.{number, place}
-use Rattle.rows.specs.Refusals.{_then_, alphabet, asRow, sizes, symbols, fresh, given, pattern, replacement, position, grown, output}
+use lib.IntN.{ℤ, pos, _-ℤ_}
+use Rattle.rows.specs.Limits.{freedSymbol, freedEntry, spanPlaces, variables}
+use Rattle.rows.specs.Programme.{Alphabet, Programme, room, front, cut}
+use Rattle.rows.specs.Tree.{Forest, IsRow, single, size, prefix, ends}
+use Rattle.rows.specs.Row.{pick, symbol, allowed}
+use Rattle.rows.specs.Buffers.{One}
+use Rattle.rows.specs.Promises.{One-tree, Tree-of-row, Entry}
+use Rattle.rows.specs.Refusals.{_then_, alphabet, sizes, symbols, kept, given, pattern, replacement}
 use Rattle.rows.specs.declared.Leaves.the-variants.{Blanks}
-use Rattle.rows.specs.declared.Refusal.{Refusal}
-use Rattle.rows.specs.declared.Refusal.the-variants.{Stale, OnRecordStale}
+use Rattle.rows.specs.declared.Refusal.the-variants.{Row, OnRecord}
 use Rattle.rows.specs.declared.Check.{Check}
-use Rattle.rows.specs.declared.Check.the-variants.{Fine, Refused}
-use Rattle.patterns.specs.Pattern.{leaf, Choice, filled}
-use Rattle.patterns.specs.Answers.{facing}
-use Rattle.patterns.specs.declared.Leaf.the-variants.{Variable}
-use Rattle.edits.specs.Put.{changed}
+use Rattle.rows.specs.declared.Check.the-variants.{Fine}
+use Rattle.refusal_numbers.specs.Table.{Refuses, FirstStale, Table}
+use Rattle.patterns.specs.Answers.{MatchesAt, Listed, facing, Has, Spanned}
+use Rattle.checks.specs.Checks.{buildCheck, searchCheck, findCheck, variablesCheck, replaceCheck, subtreeCheck, newerCheck, plainCheck}
+use Rattle.sparrowhem.specs.Said.{Said.refused, Said.gives, checkSaid, foundSaid, boundSaid, replacedSaid, placedSaid, newestSaid, fitsSaid}
 use Rattle.sparrowhem.specs.Build.{Built}
-use Rattle.checks.specs.Checks.{ofRecord}
 use Rattle.sparrowhem.specs.Search.{Finds, Binds}
-use Rattle.sparrowhem.specs.Edit.{Replacement}
-use Rattle.sparrowhem.specs.Parts.{subtreePart, subtreeAnswer, NewestSays, NewerPart}
+use Rattle.sparrowhem.specs.Edit.{newTree, Replacement}
+use Rattle.sparrowhem.specs.Parts.{subtreePart, subtreeAnswer, SubtreeLies, NewestSays, NewerPart, NewerLies}
 use Rattle.sparrowhem.specs.Plain.{PlainSays}
 use Rattle.sparrowhem.specs.declared.search.Found.{Found}
-use Rattle.sparrowhem.specs.declared.search.Found.the-variants.{Matches, Refused as FindRefused}
 use Rattle.sparrowhem.specs.declared.search.Bound.{Bound}
-use Rattle.sparrowhem.specs.declared.search.Bound.the-variants.{Matched, Unmatched, Refused as BindRefused}
 use Rattle.sparrowhem.specs.declared.edit.Replaced.{Replaced}
-use Rattle.sparrowhem.specs.declared.edit.Replaced.the-variants.{Done, Refused as Unreplaced}
 use Rattle.sparrowhem.specs.declared.parts.Placed.{Placed}
-use Rattle.sparrowhem.specs.declared.parts.Placed.the-variants.{Refused as Unplaced}
 use Rattle.sparrowhem.specs.declared.parts.Newest.{Newest}
-use Rattle.sparrowhem.specs.declared.parts.Newest.the-variants.{Refused as NewestRefused}
 use Rattle.sparrowhem.specs.declared.matcher.Fits.{Fits}
-use Rattle.sparrowhem.specs.declared.matcher.Fits.the-variants.{Yes, No, Refused as PlainRefused}
-use Rattle.promises.specs.Numbers.{Numbers}
-use Rattle.promises.specs.Calls.{Build-refused, Build-accepts, Find-refused, Find-short, Variables-refused}
-use Rattle.promises.specs.Plain.{Plain-finds, Plain-refuses}
 use Rattle.promises.specs.Runs.{State, Call, Run, edits}
-use Rattle.promises.specs.Edits.{Replace-refused, Replace-writes, movedSpan, Others-stay, Patterns-stay, Putting-back}
 
 -- ==== DEMAND 1
 
 -- "Every alphabet, row, table, pattern, position and length gets an answer": for every input, whatever its lists and numbers,
--- there is one outcome that the contract admits, and no other. An outcome is the answer and what the lent buffers hold
--- afterwards.
-pub record One {X : Type 0} (P : X → Type 0) : Type 0 where
-  pub some : X
-  pub holds : P some
-  pub only : (x : X) → P x → x ≡ some
-
--- the answer, and the table
+-- there is one outcome that the contract admits, and no other. An outcome is the answer and what the lent lists hold afterwards.
 abbrev pub Build-one : Type 0
-Build-one = (A w t : List ℕ) → One {X = Check × List ℕ} (λ x. Built A w t (x .0) (x .1))
+Build-one = (a : Alphabet) (P : Programme) → One {X = Check × Programme} (λ x. Built a P (x .0) (x .1))
 
--- the answer, and the output
 abbrev pub Find-one : Type 0
-Find-one = (A w t q y : List ℕ) → One {X = Found × List ℕ} (λ x. Finds A w t q y (x .0) (x .1))
+Find-one = (a : Alphabet) (P : Programme) (q y : List ℕ) → One {X = Found × List ℕ} (λ x. Finds a P q y (x .0) (x .1))
 
--- the answer, and the output
 abbrev pub Variables-one : Type 0
-Variables-one = (A w t q : List ℕ) (p : ℕ) (y : List ℕ) → One {X = Bound × List ℕ} (λ x. Binds A w t q p y (x .0) (x .1))
+Variables-one = (a : Alphabet) (P : Programme) (q : List ℕ) (p : ℕ) (y : List ℕ) → One {X = Bound × List ℕ} (λ x. Binds a P q p y (x .0) (x .1))
 
--- the answer, the row's buffer, and the table
 abbrev pub Replace-one : Type 0
-Replace-one = (A row table : List ℕ) (n : ℕ) (v : List ℕ) (p : ℕ)
-    → One {X = Replaced × List ℕ × List ℕ} (λ x. Replacement A row table n v p (x .0) (x .1) (x .2))
+Replace-one = (a : Alphabet) (P : Programme) (n : ℕ) (v : List ℕ) (p : ℕ)
+    → One {X = Replaced × Programme} (λ x. Replacement a P n v p (x .0) (x .1))
 
--- the part that is handed back, and the companion's answer
+-- the part that is handed back, and the companion's answer; and where the part lies, as block of memory and byte
 abbrev pub Subtree-one : Type 0
-Subtree-one = (A w t : List ℕ) (p : ℕ)
-    → One {X = List ℕ × Placed} (λ x. (x .0 ≡ subtreePart A w t p) × (x .1 ≡ subtreeAnswer A w t p))
+Subtree-one = (a : Alphabet) (P : Programme) (p : ℕ)
+    → One {X = List ℕ × Placed} (λ x. (x .0 ≡ subtreePart a P p) × (x .1 ≡ subtreeAnswer a P p))
 
--- the part that is handed back, and the companion's answer
+abbrev pub Subtree-place-one : Type 0
+Subtree-place-one = (r : Placed) (row : ℕ × ℕ) → One {X = ℕ × ℕ} (λ x. SubtreeLies r row x)
+
 abbrev pub Newer-one : Type 0
-Newer-one = (A w t v u q : List ℕ) → One {X = List ℕ × Newest} (λ x. NewerPart A w t v u q (x .0) × NewestSays A w t v u q (x .1))
+Newer-one = (a : Alphabet) (P O : Programme) (q : List ℕ) → One {X = List ℕ × Newest} (λ x. NewerPart a P O q (x .0) × NewestSays a P O q (x .1))
 
--- the answer
+abbrev pub Newer-place-one : Type 0
+Newer-place-one = (a : Alphabet) (P O : Programme) (q : List ℕ) (corrected older : ℕ × ℕ) → One {X = ℕ × ℕ} (λ x. NewerLies a P O q corrected older x)
+
 abbrev pub Plain-one : Type 0
-Plain-one = (A w q : List ℕ) (p : ℕ) → One {X = Fits} (λ r. PlainSays A w q p r)
+Plain-one = (a : Alphabet) (w q : List ℕ) (p : ℕ) → One {X = Fits} (λ r. PlainSays a w q p r)
 
--- "A faulty one is refused with a number and a place, the first in document 01's order": `number` and `place` give them for each
--- refusal, and `Numbers` says exactly when each is given. The order of a call is that of a chain of checks: it refuses with x
--- exactly if its first check does, or if that is fine and the rest does.
-abbrev pub Then-first : Type 0
-Then-first = (a b : Check) (x : Refusal) → (a then b ≡ Refused x) ↔ ((a ≡ Refused x) ⊎ ((a ≡ Fine) × (b ≡ Refused x)))
-
--- the call answers the refusal x, as `answers` says, exactly if x is the first that the checks give
-abbrev pub First : Check → (Refusal → Type 0) → Type 0
-First checks answers = (x : Refusal) → answers x ↔ (checks ≡ Refused x)
-
+-- "A faulty one is refused with a number and a place, the first in the order": `Table` says exactly when each check refuses, with which
+-- number and place, and that of two checks the first that refuses counts. Each call refuses exactly as its chain of checks does, which
+-- stands in crates/checks/specs/Checks.
 abbrev pub Build-order : Type 0
-Build-order = (A w t : List ℕ) (r : Check) (t′ : List ℕ) → Built A w t r t′
-    → First
-    (alphabet A  -- 1, 2, 3
-    then sizes (length w) (length t)  -- 4, 5, 6
-    then symbols A w)  -- 7 to 9
-    (λ x. r ≡ Refused x)
+Build-order = (a : Alphabet) (P : Programme) (r : Check) (P′ : Programme) → Built a P r P′
+    → (k x : ℕ) → (checkSaid r ≡ refused k x) ↔ Refuses (buildCheck a P) k x
 
+-- 19 is for the list of all matches
 abbrev pub Find-order : Type 0
-Find-order = (A w t q y : List ℕ) (r : Found) (y′ : List ℕ) → (f : Finds A w t q y r y′)
-    → First
-    (alphabet A  -- 1, 2, 3
-    then sizes (length w) (length t)  -- 4, 5, 6
-    then symbols A w  -- 7 to 9
-    then fresh A w t  -- 10
-    then pattern A q  -- 11 to 15
-    then output (length (f .positions)) (length y))  -- 19, for the list of all matches
-    (λ x. r ≡ FindRefused x)
+Find-order = (a : Alphabet) (P : Programme) (q y : List ℕ) (r : Found) (y′ : List ℕ) (f : Finds a P q y r y′)
+    → (k x : ℕ) → (foundSaid r ≡ refused k x) ↔ Refuses (findCheck a P q (length (f .positions)) (length y)) k x
 
 abbrev pub Variables-order : Type 0
-Variables-order = (A w t q : List ℕ) (p : ℕ) (y : List ℕ) (r : Bound) (y′ : List ℕ) → Binds A w t q p y r y′
-    → First
-    (alphabet A  -- 1, 2, 3
-    then sizes (length w) (length t)  -- 4, 5, 6
-    then symbols A w  -- 7 to 9
-    then fresh A w t  -- 10
-    then pattern A q  -- 11 to 15
-    then position (length w) p  -- 17
-    then output 32 (length y))  -- 19
-    (λ x. r ≡ BindRefused x)
+Variables-order = (a : Alphabet) (P : Programme) (q : List ℕ) (p : ℕ) (y : List ℕ) (r : Bound) (y′ : List ℕ) → Binds a P q p y r y′
+    → (k x : ℕ) → (boundSaid r ≡ refused k x) ↔ Refuses (variablesCheck a P q p (length y)) k x
 
 abbrev pub Replace-order : Type 0
-Replace-order = (A row table : List ℕ) (n : ℕ) (v : List ℕ) (p : ℕ) (r : Replaced) (row′ table′ : List ℕ) → Replacement A row table n v p r row′ table′
-    → First
-    (alphabet A  -- 1, 2, 3
-    then sizes n (min (length row) (length table))  -- 4, 5, 6
-    then symbols A (take n row)  -- 7 to 9
-    then fresh A (take n row) table  -- 10
-    then replacement A v  -- 24 to 29
-    then position n p  -- 17
-    then grown (size (changed A (take n row) p v)) (min (length row) (length table)))  -- 18
-    (λ x. r ≡ Unreplaced x)
+Replace-order = (a : Alphabet) (P : Programme) (n : ℕ) (v : List ℕ) (p : ℕ) (r : Replaced) (P′ : Programme) → Replacement a P n v p r P′
+    → (k x : ℕ) → (replacedSaid r ≡ refused k x) ↔ Refuses (replaceCheck a P n v p) k x
 
 abbrev pub Subtree-order : Type 0
-Subtree-order = (A w t : List ℕ) (p : ℕ)
-    → First
-    (alphabet A  -- 1, 2, 3
-    then sizes (length w) (length t)  -- 4, 5, 6
-    then symbols A w  -- 7 to 9
-    then fresh A w t  -- 10
-    then position (length w) p)  -- 17
-    (λ x. subtreeAnswer A w t p ≡ Unplaced x)
+Subtree-order = (a : Alphabet) (P : Programme) (p : ℕ)
+    → (k x : ℕ) → (placedSaid (subtreeAnswer a P p) ≡ refused k x) ↔ Refuses (subtreeCheck a P p) k x
 
 abbrev pub Newer-order : Type 0
-Newer-order = (A w t v u q : List ℕ) (r : Newest) → NewestSays A w t v u q r
-    → First
-    (alphabet A  -- 1, 2, 3
-    then sizes (length w) (length t)  -- 4, 5, 6 of the corrected row
-    then symbols A w  -- 7 to 9
-    then fresh A w t  -- 10
-    then ofRecord (sizes (length v) (length u) then symbols A v then fresh A v u)  -- 44 to 50: these of the row on record
-    then pattern A q)  -- 11 to 15
-    (λ x. r ≡ NewestRefused x)
+Newer-order = (a : Alphabet) (P O : Programme) (q : List ℕ) (r : Newest) → NewestSays a P O q r
+    → (k x : ℕ) → (newestSaid r ≡ refused k x) ↔ Refuses (newerCheck a P O q) k x
 
 abbrev pub Plain-order : Type 0
-Plain-order = (A w q : List ℕ) (p : ℕ) (r : Fits) → PlainSays A w q p r
-    → First
-    (alphabet A  -- 1, 2, 3
-    then asRow (sized (length w) 16384)  -- 4, 5
-    then symbols A w  -- 7 to 9
-    then pattern A q  -- 11 to 15
-    then position (length w) p)  -- 17
-    (λ x. r ≡ PlainRefused x)
+Plain-order = (a : Alphabet) (w q : List ℕ) (p : ℕ) (r : Fits) → PlainSays a w q p r
+    → (k x : ℕ) → (fitsSaid r ≡ refused k x) ↔ Refuses (plainCheck a w q p) k x
 
--- "A call that reads a table refuses it as stale if an entry differs from the row's", with number 10 and the first such
--- position: p is the first of the row's positions where the table t differs from the row's.
-pub record FirstStale (A w t : List ℕ) (p : ℕ) : Type 0 where
-  pub within : p < length w
-  pub differs : getD t p 0 ≡ getD (table A w) p 0 → ⊥
-  pub before : (k : ℕ) → k < p → getD t k 0 ≡ getD (table A w) k 0
+-- find refuses with 19 exactly if it refuses nothing earlier and there are more matches than places; the place is their number
+abbrev pub Find-short : Type 0
+Find-short = (a : Alphabet) (P : Programme) (q y : List ℕ) (r : Found) (y′ : List ℕ) → Finds a P q y r y′
+    → searchCheck a P q ≡ Fine → (ps : List ℕ) → Listed a (P .row) q (length (P .row)) ps
+    → (foundSaid r ≡ refused 19 (length ps)) ↔ (length y < length ps)
 
--- where an entry differs, there is a first one
-abbrev pub Stale-first : Type 0
-Stale-first = (A w t : List ℕ) (k : ℕ) → k < length w → (getD t k 0 ≡ getD (table A w) k 0 → ⊥) → (p : ℕ) × FirstStale A w t p
+-- "A refusal writes nothing into any lent buffer." The other calls are lent no buffer to write into.
+abbrev pub Build-refused : Type 0
+Build-refused = (a : Alphabet) (P : Programme) (r : Check) (P′ : Programme) → Built a P r P′ → (k x : ℕ) → checkSaid r ≡ refused k x → P′ ≡ P
 
--- the check of a table with room for the row refuses exactly if there is one, and names it
-abbrev pub Stale-check : Type 0
-Stale-check = (A w t : List ℕ) → length w ≤ length t → (x : Refusal) → (fresh A w t ≡ Refused x) ↔ ((p : ℕ) × FirstStale A w t p × (x ≡ Stale p))
+abbrev pub Find-refused : Type 0
+Find-refused = (a : Alphabet) (P : Programme) (q y : List ℕ) (r : Found) (y′ : List ℕ) → Finds a P q y r y′
+    → (k x : ℕ) → foundSaid r ≡ refused k x → y′ ≡ y
 
--- it has number 10, or 50 for the row on record, and its place is the position
-abbrev pub Stale-number : Type 0
-Stale-number = (p : ℕ)
-    → (number (Stale p) ≡ 10) × (place (Stale p) ≡ p) × (number (OnRecordStale p) ≡ 50) × (place (OnRecordStale p) ≡ p)
+abbrev pub Variables-refused : Type 0
+Variables-refused = (a : Alphabet) (P : Programme) (q : List ℕ) (p : ℕ) (y : List ℕ) (r : Bound) (y′ : List ℕ) → Binds a P q p y r y′
+    → (k x : ℕ) → boundSaid r ≡ refused k x → y′ ≡ y
 
--- nothing from 1 to 9 is refused, for a row of n symbols with `room` places beside it, and the table is stale at p
-pub record StaleAt (A w t : List ℕ) (n room p : ℕ) : Type 0 where
-  pub earlier : alphabet A then sizes n room then symbols A w ≡ Fine
-  pub first : FirstStale A w t p
+abbrev pub Replace-refused : Type 0
+Replace-refused = (a : Alphabet) (P : Programme) (n : ℕ) (v : List ℕ) (p : ℕ) (r : Replaced) (P′ : Programme) → Replacement a P n v p r P′
+    → (k x : ℕ) → replacedSaid r ≡ refused k x → P′ ≡ P
+
+-- "A call that reads a table refuses it as stale if an entry differs from the row's": nothing from 1 to 9 (41 to 49 of the row on
+-- record) is wrong with a row of n symbols, and p is the first position where its table differs;
+pub record StaleAt (a : Alphabet) (P : Programme) (n p : ℕ) : Type 0 where
+  pub earlier : alphabet a then sizes Row n (room P) then symbols Row (a .arities) (front n P .row) ≡ Fine
+  pub first : FirstStale (a .arities) (front n P .row) (P .table) p
 
 abbrev pub Find-stale : Type 0
-Find-stale = (A w t q y : List ℕ) (r : Found) (y′ : List ℕ) (p : ℕ) → Finds A w t q y r y′
-    → StaleAt A w t (length w) (length t) p → r ≡ FindRefused (Stale p)
+Find-stale = (a : Alphabet) (P : Programme) (q y : List ℕ) (r : Found) (y′ : List ℕ) (p : ℕ) → Finds a P q y r y′
+    → StaleAt a P (length (P .row)) p → foundSaid r ≡ refused 10 p
 
 abbrev pub Variables-stale : Type 0
-Variables-stale = (A w t q : List ℕ) (k : ℕ) (y : List ℕ) (r : Bound) (y′ : List ℕ) (p : ℕ) → Binds A w t q k y r y′
-    → StaleAt A w t (length w) (length t) p → r ≡ BindRefused (Stale p)
+Variables-stale = (a : Alphabet) (P : Programme) (q : List ℕ) (k : ℕ) (y : List ℕ) (r : Bound) (y′ : List ℕ) (p : ℕ) → Binds a P q k y r y′
+    → StaleAt a P (length (P .row)) p → boundSaid r ≡ refused 10 p
 
 abbrev pub Replace-stale : Type 0
-Replace-stale = (A row table : List ℕ) (n : ℕ) (v : List ℕ) (k : ℕ) (r : Replaced) (row′ table′ : List ℕ) (p : ℕ) → Replacement A row table n v k r row′ table′
-    → StaleAt A (take n row) table n (min (length row) (length table)) p → r ≡ Unreplaced (Stale p)
+Replace-stale = (a : Alphabet) (P : Programme) (n : ℕ) (v : List ℕ) (k : ℕ) (r : Replaced) (P′ : Programme) (p : ℕ) → Replacement a P n v k r P′
+    → StaleAt a P n p → replacedSaid r ≡ refused 10 p
 
 abbrev pub Subtree-stale : Type 0
-Subtree-stale = (A w t : List ℕ) (k p : ℕ) → StaleAt A w t (length w) (length t) p → subtreeAnswer A w t k ≡ Unplaced (Stale p)
+Subtree-stale = (a : Alphabet) (P : Programme) (k p : ℕ) → StaleAt a P (length (P .row)) p → placedSaid (subtreeAnswer a P k) ≡ refused 10 p
 
 -- the corrected row's table, or where that is fine, that of the row on record
 abbrev pub Newer-stale : Type 0
-Newer-stale = (A w t v u q : List ℕ) (r : Newest) (p : ℕ) → NewestSays A w t v u q r
-    → (StaleAt A w t (length w) (length t) p → r ≡ NewestRefused (Stale p))
-    × (given A w t ≡ Fine → StaleAt A v u (length v) (length u) p → r ≡ NewestRefused (OnRecordStale p))
+Newer-stale = (a : Alphabet) (P O : Programme) (q : List ℕ) (r : Newest) (p : ℕ) → NewestSays a P O q r
+    → (StaleAt a P (length (P .row)) p → newestSaid r ≡ refused 10 p)
+    × (given a P (length (P .row)) ≡ Fine → StaleAt a O (length (O .row)) p → newestSaid r ≡ refused 50 p)
 
--- "A refusal writes nothing into any lent buffer": `Build-refused`, `Find-refused`, `Variables-refused` and `Replace-refused`. The
--- other calls are lent no buffer to write into.
+-- "A refused corrected row never falls through to the older one"
+abbrev pub Newer-refused : Type 0
+Newer-refused = (a : Alphabet) (P O : Programme) (q : List ℕ) (r : Newest) (k x : ℕ) → NewestSays a P O q r
+    → Refuses (given a P (length (P .row))) k x → newestSaid r ≡ refused k x
 
 -- ==== DEMAND 2
 
--- "Within 01's sizes a row is accepted exactly if it is the prefix notation of a ranked tree": `Build-accepts` says so of build.
--- The check of every call's chain, 7 to 9, says the same; and so do those of a pattern, where S and the variables may be leaves,
--- and of a replacement.
+-- "Within the sizes a row is accepted exactly if it is the prefix notation of a ranked tree": the check 7 to 9 of every call says so,
+-- and so do those of a pattern, where S and the variables may be leaves, and of a replacement. Build accepts what they accept.
 abbrev pub Rows-accepted : Type 0
-Rows-accepted = (A w : List ℕ) → (symbols A w ≡ Fine) ↔ IsRow A (symbol A) w
+Rows-accepted = (A w : List ℕ) → (symbols Row A w ≡ Fine) ↔ IsRow A (symbol A) w
 
 abbrev pub Patterns-accepted : Type 0
 Patterns-accepted = (A q : List ℕ) → 1 ≤ length q → length q ≤ 256 → (pattern A q ≡ Fine) ↔ IsRow A (allowed Blanks A) q
@@ -243,120 +176,184 @@ Patterns-accepted = (A q : List ℕ) → 1 ≤ length q → length q ≤ 256 →
 abbrev pub Replacements-accepted : Type 0
 Replacements-accepted = (A v : List ℕ) → 1 ≤ length v → length v ≤ 16384 → (replacement A v ≡ Fine) ↔ IsRow A (symbol A) v
 
--- The trees whose prefix notations the row and the pattern are. Each is the only one (`One-tree` in crates/rows/specs/Promises).
-pub record Trees (A w q : List ℕ) : Type 0 where
-  pub row : IsRow A (symbol A) w
-  pub pattern : IsRow A (allowed Blanks A) q
+abbrev pub Build-accepts : Type 0
+Build-accepts = (a : Alphabet) (P : Programme) (r : Check) (P′ : Programme) → Built a P r P′
+    → alphabet a ≡ Fine → sizes Row (length (P .row)) (room P) ≡ Fine → (checkSaid r ≡ gives []) ↔ IsRow (a .arities) (symbol (a .arities)) (P .row)
 
--- the choice turns the pattern into the subtree at position p: a tree for each S, and the same tree wherever the same variable
--- stands
-abbrev pub Turns : {A w q : List ℕ} → Trees A w q → ℕ → Choice → Type 0
-Turns x p c = filled c 0 (single (x .pattern .tree)) ≡ single (subtreeAt (single (x .row .tree)) p)
+-- What build leaves, told by the row's tree: the table begins with the ends of its subtrees, and entry p is the only end that makes
+-- the symbols from p on a row, that of the subtree at p; later places and the row stay.
+pub record Leaves-table (a : Alphabet) (P P′ : Programme) (x : IsRow (a .arities) (symbol (a .arities)) (P .row)) : Type 0 where
+  pub table-is : take (length (P .row)) (P′ .table) ≡ ends 0 (single (x .tree))
+  pub entry-is : (p : ℕ) → p < length (P .row) → Entry (a .arities) (symbol (a .arities)) (P .row) (x .tree) p (getD (P′ .table) p 0)
+  pub later : drop (length (P .row)) (P′ .table) ≡ drop (length (P .row)) (P .table)
+  pub row-stays : P′ .row ≡ P .row
+
+abbrev pub Build-writes : Type 0
+Build-writes = (a : Alphabet) (P : Programme) (r : Check) (P′ : Programme) → Built a P r P′ → checkSaid r ≡ gives []
+    → (x : IsRow (a .arities) (symbol (a .arities)) (P .row)) → Leaves-table a P P′ x
 
 -- "An answered search lists a position exactly if some choice of trees for the blanks, the same tree wherever the same variable
--- stands, turns the pattern into the subtree there; the list rises, each position once." The list is the first n places of the
--- output, for the answer n; it has n positions, and later places stay.
-pub record Found-exactly (A w q y : List ℕ) (n : ℕ) (y′ : List ℕ) : Type 0 where
-  pub trees : Trees A w q
-  pub exactly : (p : ℕ) → List·Memᴰ p (take n y′) ↔ ((p < length w) × ((c : Choice) × Turns trees p c))
-  pub rises : (i j : ℕ) → i < j → j < n → getD y′ i 0 < getD y′ j 0
-  pub count : length (take n y′) ≡ n
-  pub later : drop n y′ ≡ drop n y
+-- stands, turns the pattern into the subtree there; the list rises, each position once" (`MatchesAt` and `Listed`; that they speak of
+-- the row's own tree is `Tree-of-row`, and that it is the only one `One-tree`). The list is the first n places of the output, for the
+-- answer n; later places stay.
+abbrev pub Find-lists : Type 0
+Find-lists = (a : Alphabet) (P : Programme) (q y : List ℕ) (n : ℕ) (r : Found) (y′ : List ℕ) → Finds a P q y r y′ → foundSaid r ≡ gives (pos n ∷ [])
+    → Listed a (P .row) q (length (P .row)) (take n y′) × (length (take n y′) ≡ n) × (drop n y′ ≡ drop n y)
 
-abbrev pub Find-exactly : Type 0
-Find-exactly = (A w t q y : List ℕ) (n : ℕ) (y′ : List ℕ) → Finds A w t q y (Matches n) y′ → Found-exactly A w q y n y′
-
--- "the choice for each variable is returned, and no other would do": the symbols from b up to e are the row of the tree that any
--- choice that turns the pattern into the subtree at p gives to variable i, and all of them give it the same tree
-pub record Chosen (A w q : List ℕ) (x : Trees A w q) (p i b e : ℕ) : Type 0 where
-  pub some : b < e
-  pub within : e ≤ length w
-  pub returned : (c : Choice) → Turns x p c → prefix (single (c .forVariable i)) ≡ take (e - b) (drop b w)
-  pub only : (c d : Choice) → Turns x p c → Turns x p d → c .forVariable i ≡ d .forVariable i
-
--- pattern q has variable i at place k
-abbrev pub Has : List ℕ → ℕ → ℕ → Type 0
-Has q i k = (k < length q) × (leaf (getD q k 0) ≡ Variable i)
-
--- The variables call that does not refuse says whether there is such a choice. If there is, it leaves begin and end of each
--- variable in the output, those of the subtree that the variable's first place faces; 0 and 0 for one that the pattern lacks.
-pub record Bound-exactly (A w q : List ℕ) (p : ℕ) (y : List ℕ) (r : Bound) (y′ : List ℕ) : Type 0 where
-  pub trees : Trees A w q
+-- "the choice for each variable is returned, and no other would do". The variables call that does not refuse says whether the pattern
+-- matches. If it does, it leaves begin and end of each variable in the output (`Spanned` says what they are), those of the subtree
+-- that the variable's first place faces; 0 and 0 for one that the pattern lacks; later places stay. If not, it writes nothing.
+pub record Bound-exactly (a : Alphabet) (w q : List ℕ) (p : ℕ) (y : List ℕ) (r : Bound) (y′ : List ℕ) : Type 0 where
   pub below : p < length w
-  pub matched : (r ≡ Matched) ↔ ((c : Choice) × Turns trees p c)
-  pub unmatched : (r ≡ Unmatched) ↔ (((c : Choice) × Turns trees p c) → ⊥)
-  pub present : r ≡ Matched → (i k : ℕ) → Has q i k → Chosen A w q trees p i (getD y′ (i + i) 0) (getD y′ (i + i + 1) 0)
-  pub first : r ≡ Matched → (i k : ℕ) → Has q i k → ((j : ℕ) → j < k → Has q i j → ⊥) → getD y′ (i + i) 0 ≡ getD (facing A w q p) k 0
-  pub absent : r ≡ Matched → (i : ℕ) → i < 16 → ((k : ℕ) → Has q i k → ⊥) → (getD y′ (i + i) 0 ≡ 0) × (getD y′ (i + i + 1) 0 ≡ 0)
-  pub later : drop 32 y′ ≡ drop 32 y
+  pub matched : (boundSaid r ≡ gives (pos 1 ∷ [])) ↔ MatchesAt a w q p
+  pub unmatched : (boundSaid r ≡ gives (pos 0 ∷ [])) ↔ (MatchesAt a w q p → ⊥)
+  pub present : MatchesAt a w q p → (i k : ℕ) → Has q i k → Spanned a w q p i (getD y′ (i + i) 0) (getD y′ (i + i + 1) 0)
+  pub first : MatchesAt a w q p → (i k : ℕ) → Has q i k → ((j : ℕ) → j < k → Has q i j → ⊥) → getD y′ (i + i) 0 ≡ getD (facing (a .arities) w q p) k 0
+  pub absent : MatchesAt a w q p → (i : ℕ) → i < variables → ((k : ℕ) → Has q i k → ⊥) → (getD y′ (i + i) 0 ≡ 0) × (getD y′ (i + i + 1) 0 ≡ 0)
+  pub later : drop spanPlaces y′ ≡ drop spanPlaces y
+  pub unwritten : (MatchesAt a w q p → ⊥) → y′ ≡ y
 
 abbrev pub Variables-exactly : Type 0
-Variables-exactly = (A w t q : List ℕ) (p : ℕ) (y : List ℕ) (r : Bound) (y′ : List ℕ) → Binds A w t q p y r y′
-    → ((x : Refusal) → r ≡ BindRefused x → ⊥) → Bound-exactly A w q p y r y′
+Variables-exactly = (a : Alphabet) (P : Programme) (q : List ℕ) (p : ℕ) (y : List ℕ) (r : Bound) (y′ : List ℕ) → Binds a P q p y r y′
+    → variablesCheck a P q p (length y) ≡ Fine → Bound-exactly a (P .row) q p y r y′
 
 -- the plain matcher says the same, without a table
-pub record Fits-exactly (A w q : List ℕ) (p : ℕ) (r : Fits) : Type 0 where
-  pub trees : Trees A w q
-  pub below : p < length w
-  pub yes-if : (r ≡ Yes) ↔ ((c : Choice) × Turns trees p c)
-  pub no-if : (r ≡ No) ↔ (((c : Choice) × Turns trees p c) → ⊥)
-
 abbrev pub Plain-exactly : Type 0
-Plain-exactly = (A w q : List ℕ) (p : ℕ) (r : Fits) → PlainSays A w q p r → ((x : Refusal) → r ≡ PlainRefused x → ⊥) → Fits-exactly A w q p r
+Plain-exactly = (a : Alphabet) (w q : List ℕ) (p : ℕ) (r : Fits) → PlainSays a w q p r → plainCheck a w q p ≡ Fine
+    → ((fitsSaid r ≡ gives (pos 1 ∷ [])) ↔ MatchesAt a w q p) × ((fitsSaid r ≡ gives (pos 0 ∷ [])) ↔ (MatchesAt a w q p → ⊥))
 
--- "Plain matcher and find agree": `Plain-finds` on the positions, `Plain-refuses` on the refusals.
+-- "Plain matcher and find agree": the same alphabet, row and pattern for both, and for find lists that build leaves of such as are
+-- long enough: the built table, or for a refused row any that is long enough.
+pub record Both (a : Alphabet) (P : Programme) (q y : List ℕ) (f : Found) (y′ : List ℕ) (p : ℕ) (r : Fits) : Type 0 where
+  pub old : Programme
+  pub build : Check
+  pub long : length (old .row) ≤ room old
+  pub built : Built a old build P
+  pub finds : Finds a P q y f y′
+  pub says : PlainSays a (P .row) q p r
+
+-- the plain matcher says yes exactly where find, given room enough (it does not refuse with 19), lists the position
+abbrev pub Plain-finds : Type 0
+Plain-finds = (a : Alphabet) (P : Programme) (q y : List ℕ) (f : Found) (y′ : List ℕ) (p : ℕ) (r : Fits) → Both a P q y f y′ p r
+    → ((n : ℕ) → foundSaid f ≡ refused 19 n → ⊥)
+    → (fitsSaid r ≡ gives (pos 1 ∷ [])) ↔ ((n : ℕ) × (foundSaid f ≡ gives (pos n ∷ [])) × List·Memᴰ p (take n y′))
+
+-- a refusal up to 15 is the same from both, number and place (6 and 10 come from neither, since the table is long enough and the row's)
+abbrev pub Plain-refuses : Type 0
+Plain-refuses = (a : Alphabet) (P : Programme) (q y : List ℕ) (f : Found) (y′ : List ℕ) (p : ℕ) (r : Fits) → Both a P q y f y′ p r
+    → (k x : ℕ) → k ≤ 15 → (fitsSaid r ≡ refused k x) ↔ (foundSaid f ≡ refused k x)
+
+-- "the subtree is handed back as a part of the lent row": it lies in the row between the begin and the end that the companion answers,
+-- begins at the position, and is empty exactly for a refusal
+abbrev pub Subtree-part : Type 0
+Subtree-part = (a : Alphabet) (P : Programme) (p b e : ℕ) → placedSaid (subtreeAnswer a P p) ≡ gives (pos b ∷ pos e ∷ [])
+    → (b ≡ p) × (b < e) × (e ≤ length (P .row)) × (subtreePart a P p ≡ take (e - b) (drop b (P .row)))
+
+abbrev pub Subtree-empty : Type 0
+Subtree-empty = (a : Alphabet) (P : Programme) (p : ℕ)
+    → (subtreePart a P p ≡ []) ↔ ((k : ℕ) × (x : ℕ) × (placedSaid (subtreeAnswer a P p) ≡ refused k x))
+
+-- newer or older: the part lies in the row that the companion names, between its position and end; it is empty exactly if the companion
+-- names none or refuses
+abbrev pub Newer-part : Type 0
+Newer-part = (a : Alphabet) (P O : Programme) (q x : List ℕ) (r : Newest) (p e : ℕ) → NewerPart a P O q x → NewestSays a P O q r
+    → (newestSaid r ≡ gives (pos 1 ∷ pos p ∷ pos e ∷ []) → (p < e) × (e ≤ length (P .row)) × (x ≡ take (e - p) (drop p (P .row))))
+    × (newestSaid r ≡ gives (pos 2 ∷ pos p ∷ pos e ∷ []) → (p < e) × (e ≤ length (O .row)) × (x ≡ take (e - p) (drop p (O .row))))
+
+abbrev pub Newer-empty : Type 0
+Newer-empty = (a : Alphabet) (P O : Programme) (q x : List ℕ) (r : Newest) → NewerPart a P O q x → NewestSays a P O q r
+    → (x ≡ []) ↔ ((newestSaid r ≡ gives (pos 0 ∷ [])) ⊎ ((k : ℕ) × (y : ℕ) × (newestSaid r ≡ refused k y)))
 
 -- ==== DEMAND 3
 
--- "The row is what the same replacements in the tree give, the table what a fresh build gives": a caller holds the row of the tree
--- f, with a table that no call refuses; and any build of that row, into a table with room for it, is accepted and gives the same.
-pub record Follows (A : List ℕ) (s : State) (f : Forest) : Type 0 where
-  pub row-is : take (s .length) (s .row) ≡ prefix f
-  pub accepted : given A (take (s .length) (s .row)) (s .table) ≡ Fine
-  pub table-is : (t : List ℕ) (r : Check) (t′ : List ℕ) → s .length ≤ length t → Built A (take (s .length) (s .row)) t r t′
-      → (r ≡ Fine) × (take (s .length) (s .table) ≡ take (s .length) t′)
+-- A replacement that answers the length m and a change leaves the row and the table of the tree with the subtree at p replaced, whose
+-- size m is; the change is that length less the old one; freed places are marked, later places stay.
+pub record Written (a : Alphabet) (P : Programme) (n : ℕ) (v : List ℕ) (p m : ℕ) (change : ℤ) (P′ : Programme) : Type 0 where
+  pub length-is : m ≡ size (newTree a P n v p)
+  pub row-is : take m (P′ .row) ≡ prefix (newTree a P n v p)
+  pub table-is : take m (P′ .table) ≡ ends 0 (newTree a P n v p)
+  pub change-is : change ≡ pos m -ℤ pos n
+  pub freed : (k : ℕ) → m ≤ k → k < n → (getD (P′ .row) k 0 ≡ freedSymbol) × (getD (P′ .table) k 0 ≡ freedEntry)
+  pub later : (drop (max n m) (P′ .row) ≡ drop (max n m) (P .row)) × (drop (max n m) (P′ .table) ≡ drop (max n m) (P .table))
+
+abbrev pub Replace-writes : Type 0
+Replace-writes = (a : Alphabet) (P : Programme) (n : ℕ) (v : List ℕ) (p m : ℕ) (change : ℤ) (r : Replaced) (P′ : Programme) → Replacement a P n v p r P′
+    → replacedSaid r ≡ gives (pos m ∷ change ∷ []) → Written a P n v p m change P′
+
+-- "The row is what the same replacements in the tree give, the table what a fresh build gives": a caller holds the row of the tree f,
+-- of its size, and no call refuses it; and any build of that row, into lists with room for it, is accepted and gives the same.
+pub record Follows (a : Alphabet) (s : State) (f : Forest) : Type 0 where
+  pub length-is : s .length ≡ size f
+  pub row-is : take (s .length) (s .lists .row) ≡ prefix f
+  pub accepted : given a (s .lists) (s .length) ≡ Fine
+  pub built-is : (T : Programme) (r : Check) (T′ : Programme) → T .row ≡ take (s .length) (s .lists .row) → s .length ≤ room T → Built a T r T′
+      → (checkSaid r ≡ gives []) × (cut (s .length) (s .lists) ≡ cut (s .length) T′)
 
 -- "From an accepted row with its built table, after any replacements under one alphabet, some refused": the tree is that of the
 -- first row with the replacements that were not refused made in it, one after the other.
 abbrev pub After-run : Type 0
-After-run = (A row t table : List ℕ) (n : ℕ) → n ≤ length row → Built A (take n row) t Fine table
-    → (x : IsRow A (symbol A) (take n row)) (calls : List Call) (s : State) → Run A (record { row = row; table = table; length = n }) calls s
-    → Follows A s (edits A (single (x .tree)) calls)
+After-run = (a : Alphabet) (T : Programme) (r : Check) (P : Programme) (n : ℕ) → Built a T r (front n P) → checkSaid r ≡ gives [] → length (T .row) ≡ n
+    → (x : IsRow (a .arities) (symbol (a .arities)) (T .row)) (calls : List Call) (s : State) → Run a (record { lists = P; length = n }) calls s
+    → Follows a s (edits (a .arities) (single (x .tree)) calls)
 
 -- A replacement at p, and a subtree at q that neither holds the replaced place nor lies in it: the subtree at k ends at entry k of
 -- the table before. Afterwards it stands at q′: at q if it stood to the left, else moved by the change in length, from n to m.
-pub record Beside (A row table : List ℕ) (n p m : ℕ) (row′ table′ : List ℕ) (q q′ : ℕ) : Type 0 where
+pub record Beside (a : Alphabet) (P : Programme) (n p m : ℕ) (P′ : Programme) (q q′ : ℕ) : Type 0 where
   pub new : List ℕ
   pub change : ℤ
-  pub replaced : Replacement A row table n new p (Done m change) row′ table′
+  pub answer : Replaced
+  pub answered : replacedSaid answer ≡ gives (pos m ∷ change ∷ [])
+  pub replaced : Replacement a P n new p answer P′
   pub below : q < n
-  pub holds-not : q ≤ p → p < getD table q 0 → ⊥
-  pub lies-not : p ≤ q → q < getD table p 0 → ⊥
+  pub holds-not : q ≤ p → p < getD (P .table) q 0 → ⊥
+  pub lies-not : p ≤ q → q < getD (P .table) p 0 → ⊥
   pub left : q < p → q′ ≡ q
   pub right : p < q → q′ + n ≡ q + m
 
 -- "For every pattern a subtree that neither holds the replaced place nor lies in it keeps its answer and variables, moved by the
--- change in length if it stands to the right": the variables call with room for them gives the same answer, also where it
--- refuses the pattern; if it is matched, each begin and end is the same or moved likewise, and the 0, 0 of an absent variable stays.
+-- change in length if it stands to the right": the variables call with room for them says the same, also where it refuses the pattern;
+-- if it is matched, each begin and end is the same or moved likewise, and the 0, 0 of an absent variable stays.
+abbrev pub movedSpan : ℕ → ℕ → ℕ → ℕ
+movedSpan n m x = pick (eqb x 0) 0 (x + m - n)
+
 abbrev pub Variables-stay : Type 0
-Variables-stay = (A row table : List ℕ) (n p m : ℕ) (row′ table′ : List ℕ) (q q′ : ℕ) → Beside A row table n p m row′ table′ q q′
-    → (Q y : List ℕ) (r : Bound) (y′ z : List ℕ) (s : Bound) (z′ : List ℕ) → 32 ≤ length y → 32 ≤ length z
-    → Binds A (take n row) table Q q y r y′ → Binds A (take m row′) table′ Q q′ z s z′
-    → (s ≡ r) × (r ≡ Matched → take 32 z′ ≡ map (λ x. pick (ltb q p) x (movedSpan n m x)) (take 32 y′))
+Variables-stay = (a : Alphabet) (P : Programme) (n p m : ℕ) (P′ : Programme) (q q′ : ℕ) → Beside a P n p m P′ q q′
+    → (Q y : List ℕ) (r : Bound) (y′ z : List ℕ) (s : Bound) (z′ : List ℕ) → spanPlaces ≤ length y → spanPlaces ≤ length z
+    → Binds a (front n P) Q q y r y′ → Binds a (front m P′) Q q′ z s z′
+    → (boundSaid s ≡ boundSaid r)
+    × (boundSaid r ≡ gives (pos 1 ∷ []) → take spanPlaces z′ ≡ map (λ x. pick (ltb q p) x (movedSpan n m x)) (take spanPlaces y′))
 
 -- and find lists it afterwards exactly if it did before
 abbrev pub Find-stays : Type 0
-Find-stays = (A row table : List ℕ) (n p m : ℕ) (row′ table′ : List ℕ) (q q′ : ℕ) → Beside A row table n p m row′ table′ q q′
-    → (Q y : List ℕ) (a : ℕ) (y′ z : List ℕ) (b : ℕ) (z′ : List ℕ)
-    → Finds A (take n row) table Q y (Matches a) y′ → Finds A (take m row′) table′ Q z (Matches b) z′
-    → List·Memᴰ q′ (take b z′) ↔ List·Memᴰ q (take a y′)
+Find-stays = (a : Alphabet) (P : Programme) (n p m : ℕ) (P′ : Programme) (q q′ : ℕ) → Beside a P n p m P′ q q′
+    → (Q y : List ℕ) (b : ℕ) (r : Found) (y′ z : List ℕ) (c : ℕ) (s : Found) (z′ : List ℕ)
+    → Finds a (front n P) Q y r y′ → foundSaid r ≡ gives (pos b ∷ []) → Finds a (front m P′) Q z s z′ → foundSaid s ≡ gives (pos c ∷ [])
+    → List·Memᴰ q′ (take c z′) ↔ List·Memᴰ q (take b y′)
 
 -- and the plain matcher says the same of it, also where it refuses the pattern
 abbrev pub Plain-stays : Type 0
-Plain-stays = (A row table : List ℕ) (n p m : ℕ) (row′ table′ : List ℕ) (q q′ : ℕ) → Beside A row table n p m row′ table′ q q′
-    → (Q : List ℕ) (r s : Fits) → PlainSays A (take n row) Q q r → PlainSays A (take m row′) Q q′ s → s ≡ r
+Plain-stays = (a : Alphabet) (P : Programme) (n p m : ℕ) (P′ : Programme) (q q′ : ℕ) → Beside a P n p m P′ q q′
+    → (Q : List ℕ) (r s : Fits) → PlainSays a (front n P .row) Q q r → PlainSays a (front m P′ .row) Q q′ s → fitsSaid s ≡ fitsSaid r
 
--- "Putting the old subtree straight back is never refused and restores row and table": `Putting-back`.
+-- "Putting the old subtree straight back is never refused and restores row and table": into the same lists, with the length last
+-- answered and under the same alphabet, the symbols from p up to the old end.
+abbrev pub Putting-back : Type 0
+Putting-back = (a : Alphabet) (P : Programme) (n : ℕ) (v : List ℕ) (p m : ℕ) (change : ℤ) (r : Replaced) (P₁ : Programme) (s : Replaced) (P₂ : Programme)
+    → Replacement a P n v p r P₁ → replacedSaid r ≡ gives (pos m ∷ change ∷ [])
+    → Replacement a P₁ m (take (getD (P .table) p 0 - p) (drop p (P .row))) p s P₂
+    → (replacedSaid s ≡ gives (pos n ∷ (pos n -ℤ pos m) ∷ [])) × (cut n P₂ ≡ cut n P)
+
+-- Two replacements in disjoint subtrees, by u at p and by v at q further right, can be made in either order, where none of the four
+-- calls is refused: the length is the same, and over it the lists are. Where the one at p is made first, q has moved to q′ by the
+-- change in length.
+abbrev pub Either-order : Type 0
+Either-order = (a : Alphabet) (P : Programme) (n : ℕ) (u : List ℕ) (p : ℕ) (v : List ℕ) (q q′ : ℕ) (m₁ m₁₂ m₂ m₂₁ : ℕ) (c₁ c₁₂ c₂ c₂₁ : ℤ)
+    (r₁ r₁₂ r₂ r₂₁ : Replaced) (P₁ P₁₂ P₂ P₂₁ : Programme) → getD (P .table) p 0 ≤ q → q′ + n ≡ q + m₁
+    → Replacement a P n u p r₁ P₁ → replacedSaid r₁ ≡ gives (pos m₁ ∷ c₁ ∷ [])
+    → Replacement a P₁ m₁ v q′ r₁₂ P₁₂ → replacedSaid r₁₂ ≡ gives (pos m₁₂ ∷ c₁₂ ∷ [])
+    → Replacement a P n v q r₂ P₂ → replacedSaid r₂ ≡ gives (pos m₂ ∷ c₂ ∷ [])
+    → Replacement a P₂ m₂ u p r₂₁ P₂₁ → replacedSaid r₂₁ ≡ gives (pos m₂₁ ∷ c₂₁ ∷ [])
+    → (m₁₂ ≡ m₂₁) × (cut m₁₂ P₁₂ ≡ cut m₂₁ P₂₁)
 
 -- ==== ALL OF THEM
 
@@ -367,11 +364,12 @@ pub record Demands : Type 0 where
   pub variables-one : Variables-one
   pub replace-one : Replace-one
   pub subtree-one : Subtree-one
+  pub subtree-place-one : Subtree-place-one
   pub newer-one : Newer-one
+  pub newer-place-one : Newer-place-one
   pub plain-one : Plain-one
-  -- a faulty one is refused, with the first number in document 01's order and its place;
-  pub numbers : Numbers
-  pub then-first : Then-first
+  -- a faulty one is refused, with the first number in the order and its place;
+  pub table : Table
   pub build-order : Build-order
   pub find-order : Find-order
   pub variables-order : Variables-order
@@ -379,42 +377,47 @@ pub record Demands : Type 0 where
   pub subtree-order : Subtree-order
   pub newer-order : Newer-order
   pub plain-order : Plain-order
-  -- find gives 19 exactly if there are more matches than places;
   pub find-short : Find-short
   -- a refusal writes nothing;
   pub build-refused : Build-refused
   pub find-refused : Find-refused
   pub variables-refused : Variables-refused
   pub replace-refused : Replace-refused
-  -- a stale table is refused.
-  pub stale-first : Stale-first
-  pub stale-check : Stale-check
-  pub stale-number : Stale-number
+  -- a stale table is refused; a refused corrected row does not fall through.
   pub find-stale : Find-stale
   pub variables-stale : Variables-stale
   pub replace-stale : Replace-stale
   pub subtree-stale : Subtree-stale
   pub newer-stale : Newer-stale
-  -- 2. A row is accepted exactly if it is the prefix notation of a ranked tree;
-  pub build-accepts : Build-accepts
+  pub newer-refused : Newer-refused
+  -- 2. A row is accepted exactly if it is the prefix notation of a ranked tree, of one only;
   pub rows-accepted : Rows-accepted
   pub patterns-accepted : Patterns-accepted
   pub replacements-accepted : Replacements-accepted
+  pub one-tree : One-tree
+  pub tree-of-row : Tree-of-row
+  -- build accepts such rows, and leaves the ends of the subtrees;
+  pub build-accepts : Build-accepts
+  pub build-writes : Build-writes
   -- what is listed, matched and returned is exactly what some choice of trees makes;
-  pub find-exactly : Find-exactly
+  pub find-lists : Find-lists
   pub variables-exactly : Variables-exactly
   pub plain-exactly : Plain-exactly
-  -- plain matcher and find agree.
+  -- plain matcher and find agree;
   pub plain-finds : Plain-finds
   pub plain-refuses : Plain-refuses
+  -- parts lie in the row where the companions say.
+  pub subtree-part : Subtree-part
+  pub subtree-empty : Subtree-empty
+  pub newer-part : Newer-part
+  pub newer-empty : Newer-empty
   -- 3. Each replacement leaves what it answers, and any run of them the row and the table of the changed tree;
   pub replace-writes : Replace-writes
   pub after-run : After-run
-  -- a subtree beside the replaced one keeps its answers and variables, as the calls give them, and as trees and matches;
+  -- a subtree beside the replaced one keeps its answers and variables;
   pub variables-stay : Variables-stay
   pub find-stays : Find-stays
   pub plain-stays : Plain-stays
-  pub others-stay : Others-stay
-  pub patterns-stay : Patterns-stay
-  -- putting the old subtree back restores row and table.
+  -- putting the old subtree back restores the lists; disjoint replacements can be made in either order.
   pub putting-back : Putting-back
+  pub either-order : Either-order

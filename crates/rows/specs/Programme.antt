@@ -26,3 +26,7 @@ room P = min (length (P .row)) (length (P .table))
 -- the programme whose row is the first n symbols
 abbrev pub front : ℕ → Programme → Programme
 front n P = record { row = take n (P .row); table = P .table }
+
+-- the first n places of each of its lists
+abbrev pub cut : ℕ → Programme → Programme
+cut n P = record { row = take n (P .row); table = take n (P .table) }
