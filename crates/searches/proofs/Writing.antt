@@ -5,8 +5,7 @@ use mathlib.Core.Path.{_≡_, refl, sym, ap, ap₂, _∙_}
 use mathlib.Core.List.{List, [], _∷_, _++_, append-assoc}
 use native.Mathlib.Omega.{arith}
 use native.Mathlib.Numerals.{add-one}
-use lib.ListN.{length, getD, drop, set, length-append}
-use lib.Seq.{drop-cons, set-at}
+use lib.ListN.{length, getD, set, length-append}
 use Rattle.rows.specs.Buffers.{written}
 use Rattle.rows.proofs.Buffers.{written-snoc}
 use Rattle.patterns.specs.Walk.{markBegin, markEnd}

@@ -2,6 +2,7 @@
 -- walk that is left from pattern place k decides the walk from p. A mismatch takes the outer loop's step, so p is among
 -- what the inner loop changes.
 -- Assumes nothing.
+-- a number whose tag is that of S or of a variable is not plain
 use Prim.Native.Nat.{ℕ, _-_, _+_, _<_}
 use mathlib.Core.Logic.{⊎-elim}
 use mathlib.Core.List.{List, [], _∷_}
@@ -21,7 +22,6 @@ use borrow.Author.Needs.{needs}
 use Rattle.searches.proofs.next_match.Statement.{statement}
 use Rattle.searches.proofs.next_match.Tie as tie
 
--- a number whose tag is that of S or of a variable is not plain
 told-apart : (l : Leaf) → l ≡ Plain → OneOf (1 ∷ 2 ∷ []) (tagOf the-type l) → ⊥
 told-apart l z t =
     ⊎-elim (λ (q : tagOf the-type l ≡ 1). (let x : _≡_ {A = ℕ} 0 1 = ap (tagOf the-type) (sym z) ∙ q in omega arith))
