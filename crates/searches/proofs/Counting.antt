@@ -1,20 +1,19 @@
 -- How long the lists of the matches are; counting, room, and the list with its number.
 -- Assumes nothing.
 use Prim.Native.Nat.{ℕ, zero, suc, _+_, _≤_, _<_}
-use mathlib.Core.Path.{_≡_, refl, ap, subst}
+use mathlib.Core.Path.{_≡_, refl, ap}
 use mathlib.Core.List.{List, [], _∷_, _++_}
 use mathlib.Core.Bool.{Bool, true, false}
 use native.Mathlib.Omega.{arith}
 use native.Mathlib.Decide.{ℕ-discrete}
-use borrow.Author.Tests.{le-leb, lt-leb}
 use lib.ListN.{length, length-append}
+use Rattle.rows.specs.Programme.{Alphabet, Programme}
 use Rattle.rows.specs.Row.{pick}
-use Rattle.rows.specs.Buffers.{written}
-use Rattle.patterns.specs.Answers.{MatchesAt, Listed}
+use Rattle.patterns.specs.Answers.{Listed}
 use Rattle.patterns.specs.Searchable.{Checked}
 use Rattle.patterns.specs.Walk.{comesThrough, below}
 use Rattle.patterns.proofs.Listing.{listed-none, listed-here, listed-skip, listed-once, listing}
-use Rattle.searches.specs.Searches.{Next, Counts, Lists, Room}
+use Rattle.searches.specs.Searches.{FirstFrom, NoneFrom, Counts, RoomFor}
 
 -- the list of the numbers that pass a test is at most as long as the bound, and longer for a higher one
 below-length : (f : ℕ → Bool) (n : ℕ) → length (below f n) ≤ n
@@ -35,76 +34,62 @@ below-longer f n (suc m) h = go (ℕ-discrete n (suc m)) (below-longer f n m)
     go (yes e) ih = rw e (omega arith)
     go (no e) ih = simp length-append (omega (arith, ih (omega arith)))
 
-module _ (A w e q : List ℕ) (c : Checked A w e q) where
-  pub listed-length : (n : ℕ) (ps : List ℕ) → n ≤ length w → Listed A w q n ps → length ps ≤ n
-  listed-length n ps h l = rw (listed-once A w q n ps _ l (listing A w e q c n h)) (below-length (comesThrough w e q) n)
+module _ (a : Alphabet) (P : Programme) (q : List ℕ) (c : Checked a P q) where
+  pub listed-length : (n : ℕ) (ps : List ℕ) → n ≤ length (P .row) → Listed a (P .row) q n ps → length ps ≤ n
+  listed-length n ps h l = rw (listed-once a (P .row) q n ps _ l (listing a P q c n h)) (below-length (comesThrough (P .row) (P .table) q) n)
 
-  pub listed-longer : (n m : ℕ) (ps qs : List ℕ) → n ≤ m → m ≤ length w → Listed A w q n ps → Listed A w q m qs → length ps ≤ length qs
-  listed-longer n m ps qs h k a b =
-      rw (listed-once A w q n ps _ a (listing A w e q c n (omega arith)), listed-once A w q m qs _ b (listing A w e q c m k)) (below-longer (comesThrough w e q) n m h)
+  pub listed-longer : (n m : ℕ) (ps qs : List ℕ) → n ≤ m → m ≤ length (P .row) → Listed a (P .row) q n ps → Listed a (P .row) q m qs → length ps ≤ length qs
+  listed-longer n m ps qs h k x y =
+      rw (listed-once a (P .row) q n ps _ x (listing a P q c n (omega arith)), listed-once a (P .row) q m qs _ y (listing a P q c m k))
+      (below-longer (comesThrough (P .row) (P .table) q) n m h)
 
--- COUNTING: the matches below p are listed, and p is the next one or the row's end
-pub record Tally (A w q : List ℕ) (count p : ℕ) : Type 0 where
+-- COUNTING: the matches before `from` are listed
+pub record Tally (a : Alphabet) (w q : List ℕ) (count from : ℕ) : Type 0 where
   pub positions : List ℕ
-  pub listed : Listed A w q p positions
+  pub listed : Listed a w q from positions
   pub many : count ≡ length positions
-  pub within : p ≤ length w
-  pub here : p < length w → MatchesAt A w q p
 
-unfoldable pub tally-start : (A w q : List ℕ) (r : ℕ) → Next A w q 0 r → Tally A w q 0 r
-tally-start A w q r n =
-    record {
-      positions = [];
-      listed = listed-skip A w q 0 r [] (listed-none A w q) (n .on) (n .none-between);
-      many = refl;
-      within = n .within;
-      here = n .here;
-    }
+unfoldable pub tally-start : (a : Alphabet) (w q : List ℕ) → Tally a w q 0 0
+tally-start a w q = record { positions = []; listed = listed-none a w q; many = refl }
 
-module _ (A w q : List ℕ) (count p : ℕ) (t : Tally A w q count p) where
-  -- p is counted
-  pub tally-here : p < length w → Listed A w q (p + 1) (t .positions ++ (p ∷ []))
-  tally-here h = listed-here A w q p (t .positions) (t .listed) (t .here h)
+module _ (a : Alphabet) (w q : List ℕ) (count from : ℕ) (t : Tally a w q count from) where
+  -- the next match is listed
+  pub listed-next : (p : ℕ) → FirstFrom a w q from p → Listed a w q (p + 1) (t .positions ++ (p ∷ []))
+  listed-next p n = listed-here a w q p (t .positions) (listed-skip a w q from p (t .positions) (t .listed) (n .on) (n .none-between)) (n .here)
 
-  unfoldable pub tally-more : p < length w → (r : ℕ) → Next A w q (p + 1) r → Tally A w q (count + 1) r
-  tally-more h r n =
+  unfoldable pub tally-more : (p : ℕ) → FirstFrom a w q from p → Tally a w q (count + 1) (p + 1)
+  tally-more p n =
       record {
         positions = t .positions ++ (p ∷ []);
-        listed = listed-skip A w q (p + 1) r _ (tally-here h) (n .on) (n .none-between);
+        listed = listed-next p n;
         many = omega (arith, t .many, length-append (t .positions) (p ∷ []));
-        within = n .within;
-        here = n .here;
       }
 
-  pub tally-end : length w ≤ p → Listed A w q (length w) (t .positions)
-  tally-end h = let e : p ≡ length w = omega (arith, t .within) in subst (λ (n : ℕ). Listed A w q n (t .positions)) e (t .listed)
+  -- there is none: all are listed
+  pub tally-end : from ≤ length w → NoneFrom a w q from → Listed a w q (length w) (t .positions)
+  tally-end h n = listed-skip a w q from (length w) (t .positions) (t .listed) h n
 
-  module _ (e : List ℕ) (c : Checked A w e q) where
-    -- where all matches have room, so has the one at p
-    pub tally-room : p < length w → (n : ℕ) → Room w e q n → count < n
-    tally-room h n room =
-        let all = listing A w e q c (length w) (omega arith) in
-        omega (
-          arith,
-          t .many,
-          length-append (t .positions) (p ∷ []),
-          listed-longer A w e q c (p + 1) (length w) _ _ (omega arith) (omega arith) (tally-here h) all,
-          room A _ c all,
-        )
+  pub tally-counts : from ≤ length w → NoneFrom a w q from → Counts a w q count
+  tally-counts h n = record { positions = t .positions; listed = tally-end h n; many = t .many }
+
+-- where all matches have room, so has the next one
+pub tally-room : (a : Alphabet) (P : Programme) (q : List ℕ) → Checked a P q → (count from : ℕ) → Tally a (P .row) q count from
+    → (p : ℕ) → FirstFrom a (P .row) q from p → (n : ℕ) → RoomFor P q n → count < n
+tally-room a P q c count from t p f n room =
+    let all = listing a P q c (length (P .row)) (omega arith) in
+    omega (
+      arith,
+      t .many,
+      length-append (t .positions) (p ∷ []),
+      listed-longer a P q c (p + 1) (length (P .row)) _ _ (omega (arith, f .within)) (omega arith) (listed-next a (P .row) q count from t p f) all,
+      room a _ c all,
+    )
 
 -- ROOM: for the matches that were counted; for as many as the row has symbols
-pub room-counted : (w e q : List ℕ) (r n : ℕ) → ((A : List ℕ) → Checked A w e q → Counts A w q r) → r ≤ n → Room w e q n
-room-counted w e q r n f h A ps c l =
-    let k = f A c in
-    omega (arith, k .many, ap length (listed-once A w q (length w) ps (k .positions) l (k .listed)))
+pub room-counted : (P : Programme) (q : List ℕ) (r n : ℕ) → ((a : Alphabet) → Checked a P q → Counts a (P .row) q r) → r ≤ n → RoomFor P q n
+room-counted P q r n f h a ps c l =
+    let k = f a c in
+    omega (arith, k .many, ap length (listed-once a (P .row) q (length (P .row)) ps (k .positions) l (k .listed)))
 
-pub room-enough : (w e q : List ℕ) (n : ℕ) → length w ≤ n → Room w e q n
-room-enough w e q n h A ps c l = omega (arith, listed-length A w e q c (length w) ps (omega arith) l)
-
--- THE LIST AND ITS NUMBER
-module _ (A w q y : List ℕ) (r : ℕ) (y′ ps : List ℕ) (l : Listed A w q (length w) ps) (n : r ≡ length ps) where
-  pub lists-all : length ps ≤ length y → y′ ≡ written y 0 ps → Lists A w q y r y′
-  lists-all h z = record { positions = ps; listed = l; many = n; buffer = rw (le-leb r (length y) (omega arith)) z }
-
-  pub lists-short : length y < r → y′ ≡ y → Lists A w q y r y′
-  lists-short h z = record { positions = ps; listed = l; many = n; buffer = rw (lt-leb r (length y) h) z }
+pub room-enough : (P : Programme) (q : List ℕ) (n : ℕ) → length (P .row) ≤ n → RoomFor P q n
+room-enough P q n h a ps c l = omega (arith, listed-length a P q c (length (P .row)) ps (omega arith) l)

@@ -3,7 +3,8 @@
 use mathlib.Core.Path.{refl}
 use mathlib.Core.Logic.{⊎-elim}
 use lib.ListN.{length}
-use Rattle.searches.proofs.Counting.{room-counted, room-enough, lists-short}
+use Rattle.rows.specs.Programme.{programme}
+use Rattle.searches.proofs.Counting.{room-counted, room-enough}
 use borrow.Author.Needs.{needs}
 use Rattle.searches.proofs.list_matches.Statement.{statement}
 use Rattle.searches.proofs.list_matches.Tie as tie
@@ -12,16 +13,15 @@ count-matches-requires : tie.Need-count-matches-requires
 count-matches-requires c κs = search needs
 
 returns : tie.Need-returns
-returns c A k =
-    let g = c .before .before .before .before .before .before .before .args in
-    let n = c .before .count-matches .ensures A k in
-    lists-short A (g .row .now) (g .pattern .now) (g .out .now) _ (g .out .now) (n .positions) (n .listed) (n .many) (c .if2 .taken) refl
+returns c a k =
+    let n = c .before .count-matches .ensures a k in
+    record { positions = n .positions; listed = n .listed; told = (n .many, c .if2 .taken, refl) }
 
 write-matches-requires : tie.Need-write-matches-requires
 write-matches-requires c κs =
-    let s = c .before .before .before .before .before .before in let g = s .args in
-    let w = g .row .now in let e = g .table .now in let q = g .pattern .now in let n = length (g .out .now) in
-    (s .pre, ⊎-elim (λ x. room-counted w e q _ n (x .1 .ensures) (x .2 .left)) (λ x. room-enough w e q n (x .left)) (c .before .if1 .came))
+    let before = c .before .before in let s = before .before .before .before .before in let g = s .args in
+    let P = programme (g .row .now) (g .table .now) in let q = g .pattern .now in let n = length (g .out .now) in
+    (s .pre, ⊎-elim (λ x. room-counted P q _ n (x .1 .ensures) (x .2 .left)) (λ x. room-enough P q n (x .left)) (c .before .if1 .came))
 
 same-length : tie.Need-same-length
 same-length c = search needs

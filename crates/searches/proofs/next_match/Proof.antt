@@ -2,11 +2,13 @@
 -- walk that is left from pattern place k decides the walk from p. A mismatch takes the outer loop's step, so p is among
 -- what the inner loop changes.
 -- Assumes nothing.
+-- a number whose tag is that of S or of a variable is not plain
 use Prim.Native.Nat.{ℕ, _-_, _+_, _<_}
 use mathlib.Core.Logic.{⊎-elim}
 use mathlib.Core.List.{List, [], _∷_}
 use denote.Enum.Declared.{tagOf}
 use types.Run.{OneOf}
+use Rattle.rows.specs.Programme.{Programme, programme}
 use Rattle.patterns.specs.declared.Leaf.{Leaf}
 use Rattle.patterns.specs.declared.Leaf.the-variants.{Plain}
 use Rattle.patterns.proofs.Leaf.{the-type}
@@ -14,13 +16,12 @@ use mathlib.Core.Path.{_≡_, refl, sym, ap, _∙_, subst, subst₂}
 use native.Mathlib.Omega.{arith}
 use lib.ListN.{length}
 use Rattle.patterns.proofs.Matching.{checked-ends, checked-pattern}
-use Rattle.searches.proofs.Going.{Walking, walking-inside, walking-same, walking-next, walking-miss, walking-end}
-use Rattle.searches.proofs.Searching.{next-bare, Passed, passed-none, passed-more, next-here, next-none, root-same, root-other}
+use Rattle.searches.proofs.Going.{lent-ends, Walking, walking-inside, walking-same, walking-next, walking-miss, walking-end}
+use Rattle.searches.proofs.Searching.{bare-here, past-row, Passed, passed-none, passed-more, next-here, next-none, root-same, root-other}
 use borrow.Author.Needs.{needs}
 use Rattle.searches.proofs.next_match.Statement.{statement}
 use Rattle.searches.proofs.next_match.Tie as tie
 
--- a number whose tag is that of S or of a variable is not plain
 told-apart : (l : Leaf) → l ≡ Plain → OneOf (1 ∷ 2 ∷ []) (tagOf the-type l) → ⊥
 told-apart l z t =
     ⊎-elim (λ (q : tagOf the-type l ≡ 1). (let x : _≡_ {A = ℕ} 0 1 = ap (tagOf the-type) (sym z) ∙ q in omega arith))
@@ -28,25 +29,59 @@ told-apart l z t =
 
 abbrev Inv-loop : tie.InvT-loop
 Inv-loop row table pattern from root p₀ marks₀ j₀ k₀ p-end k-end p marks j k =
-    (p ≡ p₀) × (k-end ≡ length pattern) × Walking row table pattern p₀ marks j k
+    (p ≡ p₀) × (k-end ≡ length pattern) × Walking (programme row table) pattern p₀ marks j k
 
 abbrev μ-loop : tie.MeasureT-loop
 μ-loop row table pattern from root p₀ marks₀ j₀ k₀ p-end k-end p marks j k = length pattern - k
 
 abbrev Inv-positions : tie.InvT-positions
-Inv-positions row table pattern from root p₀ p-end p = (p-end ≡ length row) × Passed row table pattern from p
+Inv-positions row table pattern from root p₀ p-end p = (p-end ≡ length row) × Passed (programme row table) pattern from p
 
 abbrev μ-positions : tie.MeasureT-positions
 μ-positions row table pattern from root p₀ p-end p = length row - p
 
+-- what the function was given
+abbrev Start : Type 0
+Start = tie.Start Inv-loop μ-loop Inv-positions μ-positions
+
+abbrev lent : Start → Programme
+lent s = programme (s .args .row .now) (s .args .table .now)
+
+abbrev sought : Start → List ℕ
+sought s = s .args .pattern .now
+
+-- where S or a variable alone is sought
+abbrev Bare : Type 0
+Bare = tie.At-match-keys2 Inv-loop μ-loop Inv-positions μ-positions
+
+abbrev bare-start : Bare → Start
+bare-start c = c .before .before .before .before .before .before
+
+bare : (c : Bare) → (let s = bare-start c in c .before .leaf-of .result ≡ Plain → ⊥)
+bare c z = told-apart (c .before .leaf-of .result) z (c .match .keys2)
+
+-- at the test of the outer loop
+abbrev Outer : Type 0
+Outer = tie.At-positions Inv-loop μ-loop Inv-positions μ-positions
+
+abbrev start : Outer → Start
+start u = u .before .before .before .before .before .before .before .before
+
+-- at that of the inner one
+abbrev Inner : Type 0
+Inner = tie.At-loop Inv-loop μ-loop Inv-positions μ-positions
+
+abbrev outer : Inner → Outer
+outer l = l .before .before .before .before .before
+
 -- a position of the row faces the number at k
-inside : (c : tie.In-loop Inv-loop μ-loop Inv-positions μ-positions) → c .before .loop .j < length (c .before .before .before .before .before .before .before .before .before .before .before .before .before .before .args .row .now)
+inside : (c : tie.In-loop Inv-loop μ-loop Inv-positions μ-positions) → (let l = c .before in l .loop .j < length (start (outer l) .args .row .now))
 inside c =
-    let l = c .before in let s = l .before .before .before .before .before .before .before .before .before .before .before .before .before in let g = s .args in let i = l .loop in
-    walking-inside (g .row .now) (g .table .now) (g .pattern .now) _ (s .pre .0) (i .marks) (i .j) (i .k) (i .inv .2) (search needs)
+    let l = c .before in let s = start (outer l) in let i = l .loop in
+    walking-inside (lent s) (sought s) _ (s .pre .0) (i .marks) (i .j) (i .k) (i .inv .2) (search needs)
 
 shared-slice-read-root : tie.Need-shared-slice-read-root Inv-loop μ-loop Inv-positions μ-positions
-shared-slice-read-root c = let s = c .before .before .before .before in let g = s .args in checked-pattern (s .pre .0 .0) (g .row .now) (g .table .now) (g .pattern .now) (s .pre .0 .1) .some
+shared-slice-read-root c = let s = c .before .before .before .before in checked-pattern (s .pre .0 .0) (lent s) (sought s) (s .pre .0 .1) .some
 
 leaf-of-requires : tie.Need-leaf-of-requires Inv-loop μ-loop Inv-positions μ-positions
 leaf-of-requires c κs = search needs
@@ -56,13 +91,16 @@ enum-told c = search needs
 
 returns : tie.Need-returns Inv-loop μ-loop Inv-positions μ-positions
 returns c =
-    let s = c .before .before .before .before .before .before in let g = s .args in
-    next-bare (g .row .now) (g .table .now) (g .pattern .now) (g .from) (s .pre .1) (λ z. told-apart (c .before .leaf-of .result) (c .before .leaf-of .ensures ∙ z) (c .match .keys2))
+    let b = c .before in let s = bare-start b in
+    bare-here (lent s) (sought s) (s .args .from) (search needs) (λ z. bare b (b .before .leaf-of .ensures ∙ z))
+
+returns-2 : tie.Need-returns-2 Inv-loop μ-loop Inv-positions μ-positions
+returns-2 c a k = let s = bare-start (c .before) in past-row (lent s) (sought s) (s .args .from) (search needs) a
 
 positions-holds : tie.Need-positions-holds Inv-loop μ-loop Inv-positions μ-positions
 positions-holds c =
-    let s = c .before .before .before .before .before .before .before in let g = s .args in
-    (refl, passed-none (g .row .now) (g .table .now) (g .pattern .now) (g .from) (s .pre .1))
+    let s = c .before .before .before .before .before .before .before in
+    (refl, passed-none (lent s) (sought s) (s .args .from) (s .pre .1))
 
 mul-same : tie.Need-mul-same Inv-loop μ-loop Inv-positions μ-positions
 mul-same c = search needs
@@ -78,8 +116,8 @@ add-j c = search needs
 
 loop-holds : tie.Need-loop-holds Inv-loop μ-loop Inv-positions μ-positions
 loop-holds c =
-    let s = c .before .before .before .before .before .before .before .before .before .before .before .before in let g = s .args in
-    (refl, refl, root-same (g .row .now) (g .table .now) (g .pattern .now) (s .pre .0) _ (search needs) (sym (c .before .same .ensures) ∙ c .if1 .taken))
+    let u = c .before .before .before .before in let s = start u in
+    (refl, refl, root-same (lent s) (sought s) (s .pre .0) _ (search needs) (sym (c .before .same .ensures) ∙ c .if2 .taken))
 
 mul-s : tie.Need-mul-s Inv-loop μ-loop Inv-positions μ-positions
 mul-s c = search needs
@@ -101,8 +139,8 @@ add-j-2 c = search needs
 
 step-requires : tie.Need-step-requires Inv-loop μ-loop Inv-positions μ-positions
 step-requires c κs =
-    let l = c .before .before .before .before .before .before in let s = l .before .before .before .before .before .before .before .before .before .before .before .before .before in let g = s .args in let i = l .loop in
-    (checked-ends (s .pre .0 .0) (g .row .now) (g .table .now) (g .pattern .now) (s .pre .0 .1), i .inv .2 .marks, inside (c .before .before .before .before .before), sym (c .before .before .same2 .ensures) ∙ c .before .if2 .left)
+    let n = c .before .before .before .before .before in let l = n .before in let s = start (outer l) in
+    (checked-ends (s .pre .0 .0) (lent s) (sought s) (s .pre .0 .1), l .loop .inv .2 .marks, inside n, sym (c .before .before .same2 .ensures) ∙ c .before .if3 .left)
 
 enum-known-found : tie.Need-enum-known-found Inv-loop μ-loop Inv-positions μ-positions
 enum-known-found c = search needs
@@ -118,10 +156,9 @@ positions-less c = search needs
 
 positions-again : tie.Need-positions-again Inv-loop μ-loop Inv-positions μ-positions
 positions-again c =
-    let l = c .before .before .before .before .before .before .before .before .before in let u = l .before .before .before .before .before in let s = u .before .before .before .before .before .before .before .before in let g = s .args in let o = u .positions in let i = l .loop in
-    let w = g .row .now in let e = g .table .now in let q = g .pattern .now in
-    let missed = walking-miss w e q (o .p) (s .pre .0) (i .marks) (i .j) (i .k) (i .inv .2) (c .before .before .before .before .before .before .before .before .loop-test .taken) _ _ (c .before .before .step .ensures) _ (c .enum-told2 .given .1) in
-    (refl, subst (λ n. Passed w e q (g .from) (n + 1)) (sym (i .inv .0)) (passed-more w e q (g .from) (o .p) (o .inv .1) (search needs) _ missed))
+    let n = c .before .before .before .before .before .before .before .before in let l = n .before in let u = outer l in let s = start u in let o = u .positions in let i = l .loop in
+    let missed = walking-miss (lent s) (sought s) (o .p) (s .pre .0) (i .marks) (i .j) (i .k) (i .inv .2) (n .loop-test .taken) _ _ (c .before .before .step .ensures) _ _ (c .enum-told2 .given .1) in
+    (refl, subst (λ n. Passed (lent s) (sought s) (s .args .from) (n + 1)) (sym (i .inv .0)) (passed-more (lent s) (sought s) (s .args .from) (o .p) (o .inv .1) (search needs) _ _ (missed (s .args .table .now) (lent-ends (lent s)))))
 
 add-k : tie.Need-add-k Inv-loop μ-loop Inv-positions μ-positions
 add-k c = search needs
@@ -131,24 +168,22 @@ loop-less c = search needs
 
 loop-again : tie.Need-loop-again Inv-loop μ-loop Inv-positions μ-positions
 loop-again c =
-    let l = c .before .before .before .before .before in let s = l .before .before .before .before .before .before .before .before .before .before .before .before .before in let g = s .args in let i = l .loop in
-    let w = g .row .now in let e = g .table .now in let q = g .pattern .now in
-    let p = l .before .before .before .before .before .positions .p in
-    let here : List ℕ → ℕ → Type 0 = λ ms j. Walking w e q p ms j (i .k + 1) in (
+    let l = c .before .before .before .before .before in let u = outer l in let s = start u in let i = l .loop in
+    let p = u .positions .p in
+    let here : List ℕ → ℕ → Type 0 = λ ms j. Walking (lent s) (sought s) p ms j (i .k + 1) in (
       i .inv .0,
       refl,
       ⊎-elim
-          (λ x. subst₂ here (sym (x .1)) (sym (x .2)) (walking-same w e q p (s .pre .0) (i .marks) (i .j) (i .k) (i .inv .2) (search needs) (sym (c .before .same2 .ensures) ∙ x .0 .taken)))
-          (λ x. subst₂ here (sym (x .6)) (sym (x .7)) (walking-next w e q p (s .pre .0) (i .marks) (i .j) (i .k) (i .inv .2) (search needs) _ _ (x .2 .ensures) _ (x .4 .given .1)))
-          (c .if2 .came),
+          (λ x. subst₂ here (sym (x .1)) (sym (x .2)) (walking-same (lent s) (sought s) p (s .pre .0) (i .marks) (i .j) (i .k) (i .inv .2) (search needs) (sym (c .before .same2 .ensures) ∙ x .0 .taken)))
+          (λ x. subst₂ here (sym (x .6)) (sym (x .7)) (walking-next (lent s) (sought s) p (s .pre .0) (i .marks) (i .j) (i .k) (i .inv .2) (search needs) _ _ (x .2 .ensures) _ (x .4 .given .1)))
+          (c .if3 .came),
     )
 
-returns-2 : tie.Need-returns-2 Inv-loop μ-loop Inv-positions μ-positions
-returns-2 c =
-    let l = c .before in let u = l .before .before .before .before .before in let s = u .before .before .before .before .before .before .before .before in let g = s .args in let o = u .positions in let i = l .loop in
-    let w = g .row .now in let e = g .table .now in let q = g .pattern .now in
-    let through = walking-end w e q (o .p) (s .pre .0) (i .marks) (i .j) (i .k) (i .inv .2) (search needs) in
-    rw (i .inv .0) (next-here w e q (g .from) (o .p) (o .inv .1) (search needs) (i .j) (i .marks) through)
+returns-3 : tie.Need-returns-3 Inv-loop μ-loop Inv-positions μ-positions
+returns-3 c =
+    let l = c .before in let u = outer l in let s = start u in let o = u .positions in let i = l .loop in
+    let through = walking-end (lent s) (sought s) (o .p) (s .pre .0) (i .marks) (i .j) (i .k) (i .inv .2) (search needs) in
+    rw (i .inv .0) (next-here (lent s) (sought s) (s .args .from) (o .p) (o .inv .1) (search needs) (i .j) (i .marks) through)
 
 add-p-2 : tie.Need-add-p-2 Inv-loop μ-loop Inv-positions μ-positions
 add-p-2 c = search needs
@@ -158,15 +193,14 @@ positions-less-2 c = search needs
 
 positions-again-2 : tie.Need-positions-again-2 Inv-loop μ-loop Inv-positions μ-positions
 positions-again-2 c =
-    let u = c .before .before .before .before in let s = u .before .before .before .before .before .before .before .before in let g = s .args in let o = u .positions in
-    let w = g .row .now in let e = g .table .now in let q = g .pattern .now in
+    let u = c .before .before .before .before in let s = start u in let o = u .positions in
     let plain = sym (u .before .before .before .leaf-of .ensures) ∙ u .before .enum-told .given .1 in
-    (refl, passed-more w e q (g .from) (o .p) (o .inv .1) (search needs) _ (root-other w e q (s .pre .0) (o .p) (search needs) (sym (c .before .same .ensures) ∙ c .if1 .left) plain))
+    (refl, passed-more (lent s) (sought s) (s .args .from) (o .p) (o .inv .1) (search needs) _ _ (root-other (lent s) (sought s) (s .pre .0) (o .p) (search needs) (sym (c .before .same .ensures) ∙ c .if2 .left) plain))
 
-returns-3 : tie.Need-returns-3 Inv-loop μ-loop Inv-positions μ-positions
-returns-3 c =
-    let u = c .before in let g = u .before .before .before .before .before .before .before .before .args in let o = u .positions in
-    next-none (g .row .now) (g .table .now) (g .pattern .now) (g .from) (o .p) (o .inv .1) (search needs)
+returns-4 : tie.Need-returns-4 Inv-loop μ-loop Inv-positions μ-positions
+returns-4 c =
+    let u = c .before in let s = start u in let o = u .positions in
+    next-none (lent s) (sought s) (s .args .from) (o .p) (o .inv .1) (search needs)
 
 pub next-match-spec : {M : Type 1} → statement M
 next-match-spec =
@@ -180,6 +214,7 @@ next-match-spec =
     leaf-of-requires
     enum-told
     returns
+    returns-2
     positions-holds
     mul-same
     shared-slice-read-same
@@ -201,8 +236,8 @@ next-match-spec =
     add-k
     loop-less
     loop-again
-    returns-2
+    returns-3
     add-p-2
     positions-less-2
     positions-again-2
-    returns-3)
+    returns-4)

@@ -7,30 +7,45 @@ use mathlib.Core.Logic.{⊎-elim}
 use mathlib.Core.List.{List}
 use native.Mathlib.Omega.{arith}
 use lib.ListN.{length}
+use Rattle.rows.specs.Programme.{Programme, programme}
 use Rattle.patterns.proofs.Marks.{marks-wider}
 use Rattle.patterns.proofs.Matching.{checked-ends}
 use Rattle.searches.proofs.Going.{Walking, walking-start, walking-inside, walking-same, walking-next, walking-miss, walking-end}
-use Rattle.searches.proofs.Binding.{binds-none, binds-some}
+use Rattle.searches.proofs.Binding.{variables-none, variables-some}
 use borrow.Author.Needs.{needs}
 use Rattle.searches.proofs.variables_at.Statement.{statement}
 use Rattle.searches.proofs.variables_at.Tie as tie
 
 abbrev Inv-loop : tie.InvT-loop
-Inv-loop row table pattern p out marks₀ j₀ k₀ k-end marks j k = (k-end ≡ length pattern) × Walking row table pattern p marks j k
+Inv-loop row table pattern p out marks₀ j₀ k₀ k-end marks j k = (k-end ≡ length pattern) × Walking (programme row table) pattern p marks j k
 
 abbrev μ-loop : tie.MeasureT-loop
 μ-loop row table pattern p out marks₀ j₀ k₀ k-end marks j k = length pattern - k
 
+-- what the function was given
+abbrev Start : Type 0
+Start = tie.Start Inv-loop μ-loop
+
+abbrev lent : Start → Programme
+lent s = programme (s .args .row .now) (s .args .table .now)
+
+abbrev sought : Start → List ℕ
+sought s = s .args .pattern .now
+
+-- at the loop's test
+abbrev start : tie.At-loop Inv-loop μ-loop → Start
+start l = l .before .before .before .before .before
+
 -- a position of the row faces the number at k
-inside : (c : tie.In-loop Inv-loop μ-loop) → c .before .loop .j < length (c .before .before .before .before .before .before .args .row .now)
+inside : (c : tie.In-loop Inv-loop μ-loop) → (let l = c .before in l .loop .j < length (start l .args .row .now))
 inside c =
-    let l = c .before in let s = l .before .before .before .before .before in let g = s .args in let i = l .loop in
-    walking-inside (g .row .now) (g .table .now) (g .pattern .now) (g .p) (s .pre .0) (i .marks) (i .j) (i .k) (i .inv .1) (search needs)
+    let l = c .before in let s = start l in let i = l .loop in
+    walking-inside (lent s) (sought s) (s .args .p) (s .pre .0) (i .marks) (i .j) (i .k) (i .inv .1) (search needs)
 
 loop-holds : tie.Need-loop-holds Inv-loop μ-loop
 loop-holds c =
-    let s = c .before .before .before .before in let g = s .args in
-    (refl, walking-start (g .row .now) (g .table .now) (g .pattern .now) (g .p) (s .pre .1))
+    let s = c .before .before .before .before in
+    (refl, walking-start (lent s) (sought s) (s .args .p) (s .pre .1))
 
 mul-s : tie.Need-mul-s Inv-loop μ-loop
 mul-s c = search needs
@@ -52,20 +67,20 @@ add-j c = search needs
 
 step-requires : tie.Need-step-requires Inv-loop μ-loop
 step-requires c κs =
-    let l = c .before .before .before .before .before .before in let s = l .before .before .before .before .before in let g = s .args in let i = l .loop in
-    (checked-ends (s .pre .0 .0) (g .row .now) (g .table .now) (g .pattern .now) (s .pre .0 .1), i .inv .1 .marks, inside (c .before .before .before .before .before), sym (c .before .before .same .ensures) ∙ c .before .if1 .left)
+    let n = c .before .before .before .before .before in let l = n .before in let s = start l in
+    (checked-ends (s .pre .0 .0) (lent s) (sought s) (s .pre .0 .1), l .loop .inv .1 .marks, inside n, sym (c .before .before .same .ensures) ∙ c .before .if1 .left)
 
 enum-known-found : tie.Need-enum-known-found Inv-loop μ-loop
 enum-known-found c = search needs
 
-enum-told : tie.Need-enum-told Inv-loop μ-loop
-enum-told c = search needs
+enum-known-found-2 : tie.Need-enum-known-found-2 Inv-loop μ-loop
+enum-known-found-2 c = search needs
 
 returns : tie.Need-returns Inv-loop μ-loop
 returns c =
-    let l = c .before .before .before .before .before .before .before .before .before in let s = l .before .before .before .before .before in let g = s .args in let i = l .loop in
-    let missed = walking-miss (g .row .now) (g .table .now) (g .pattern .now) (g .p) (s .pre .0) (i .marks) (i .j) (i .k) (i .inv .1) (search needs) _ _ (c .before .before .step .ensures) _ (c .enum-told .given .1) in
-    binds-none (g .row .now) (g .table .now) (g .pattern .now) (g .p) (g .out .now) _ (s .pre .1) missed
+    let t = c .before .before .before in let n = t .before .before .before .before .before .before in let l = n .before in let s = start l in let i = l .loop in
+    let missed = walking-miss (lent s) (sought s) (s .args .p) (s .pre .0) (i .marks) (i .j) (i .k) (i .inv .1) (n .loop-test .taken) _ _ (t .step .ensures) _ _ (c .before .found2 .given .1) in
+    variables-none (lent s) (sought s) (s .args .p) (s .args .out .now) _ _ (s .pre .1) missed
 
 add-k : tie.Need-add-k Inv-loop μ-loop
 add-k c = search needs
@@ -75,30 +90,29 @@ loop-less c = search needs
 
 loop-again : tie.Need-loop-again Inv-loop μ-loop
 loop-again c =
-    let l = c .before .before .before .before .before in let s = l .before .before .before .before .before in let g = s .args in let i = l .loop in
-    let w = g .row .now in let e = g .table .now in let q = g .pattern .now in
-    let here : List ℕ → ℕ → Type 0 = λ ms j. Walking w e q (g .p) ms j (i .k + 1) in (
+    let l = c .before .before .before .before .before in let s = start l in let i = l .loop in
+    let here : List ℕ → ℕ → Type 0 = λ ms j. Walking (lent s) (sought s) (s .args .p) ms j (i .k + 1) in (
       refl,
       ⊎-elim
-          (λ x. subst₂ here (sym (x .1)) (sym (x .2)) (walking-same w e q (g .p) (s .pre .0) (i .marks) (i .j) (i .k) (i .inv .1) (search needs) (sym (c .before .same .ensures) ∙ x .0 .taken)))
-          (λ x. subst₂ here (sym (x .6)) (sym (x .7)) (walking-next w e q (g .p) (s .pre .0) (i .marks) (i .j) (i .k) (i .inv .1) (search needs) _ _ (x .2 .ensures) _ (x .4 .given .1)))
+          (λ x. subst₂ here (sym (x .1)) (sym (x .2)) (walking-same (lent s) (sought s) (s .args .p) (s .pre .0) (i .marks) (i .j) (i .k) (i .inv .1) (search needs) (sym (c .before .same .ensures) ∙ x .0 .taken)))
+          (λ x. subst₂ here (sym (x .6)) (sym (x .7)) (walking-next (lent s) (sought s) (s .args .p) (s .pre .0) (i .marks) (i .j) (i .k) (i .inv .1) (search needs) _ _ (x .2 .ensures) _ (x .4 .given .1)))
           (c .if1 .came),
     )
 
 write-spans-requires : tie.Need-write-spans-requires Inv-loop μ-loop
 write-spans-requires c κs =
-    let l = c .before .before in let s = l .before .before .before .before .before in let g = s .args in let i = l .loop in
-    let ends = checked-ends (s .pre .0 .0) (g .row .now) (g .table .now) (g .pattern .now) (s .pre .0 .1) in
-    (marks-wider (i .j) (length (g .table .now)) (i .marks) (omega (arith, ends .long, i .inv .1 .within)) (i .inv .1 .marks), s .pre .2)
+    let l = c .before .before in let s = start l in let i = l .loop in
+    let ends = checked-ends (s .pre .0 .0) (lent s) (sought s) (s .pre .0 .1) in
+    (marks-wider (i .j) (length (s .args .table .now)) (i .marks) (omega (arith, ends .long, i .inv .1 .within)) (i .inv .1 .marks), s .pre .2)
 
 same-length : tie.Need-same-length Inv-loop μ-loop
 same-length c = search needs
 
 returns-2 : tie.Need-returns-2 Inv-loop μ-loop
 returns-2 c =
-    let l = c .before .before .before .before .before in let s = l .before .before .before .before .before in let g = s .args in let i = l .loop in
-    let through = walking-end (g .row .now) (g .table .now) (g .pattern .now) (g .p) (s .pre .0) (i .marks) (i .j) (i .k) (i .inv .1) (search needs) in
-    binds-some (g .row .now) (g .table .now) (g .pattern .now) (g .p) (g .out .now) _ (i .j) (i .marks) (s .pre .1) through (c .before .before .write-spans .ensures)
+    let l = c .before .before .before .before .before in let s = start l in let i = l .loop in
+    let through = walking-end (lent s) (sought s) (s .args .p) (s .pre .0) (i .marks) (i .j) (i .k) (i .inv .1) (search needs) in
+    variables-some (lent s) (sought s) (s .args .p) (s .args .out .now) _ (i .j) (i .marks) (s .pre .1) through (c .before .before .write-spans .ensures)
 
 pub variables-at-spec : {M : Type 1} → statement M
 variables-at-spec =
@@ -115,7 +129,7 @@ variables-at-spec =
     add-j
     step-requires
     enum-known-found
-    enum-told
+    enum-known-found-2
     returns
     add-k
     loop-less

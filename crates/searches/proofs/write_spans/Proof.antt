@@ -1,26 +1,28 @@
 -- `searches::write_spans` meets its contract: after i turns the spans of the first i marks stand in the buffer.
 -- Assumes nothing.
 use Prim.Native.Nat.{_≤_, _-_, _+_}
-use mathlib.Core.Path.{_≡_, refl, ap, _∙_}
+use mathlib.Core.Path.{_≡_, refl, sym, ap, _∙_}
 use native.Mathlib.Omega.{arith}
 use lib.ListN.{length, set, length-set}
 use Rattle.rows.specs.Buffers.{written}
+use Rattle.rows.specs.Limits.{variables}
+use Rattle.rows.proofs.Buffers.{written-nil}
 use Rattle.searches.specs.Spans.{markSpans}
-use Rattle.searches.proofs.Writing.{written-none, marks-more}
+use Rattle.searches.proofs.Writing.{marks-more}
 use borrow.Author.Needs.{needs}
 use Rattle.searches.proofs.write_spans.Statement.{statement}
 use Rattle.searches.proofs.write_spans.Tie as tie
 
 abbrev Inv-loop : tie.InvT-loop
 Inv-loop table out₀ marks i₀ out i =
-    (i ≤ 16) × (length out ≡ length out₀) × (out ≡ written out₀ 0 (markSpans table marks i))
+    (i ≤ variables) × (length out ≡ length out₀) × (out ≡ written out₀ 0 (markSpans table marks i))
 
 abbrev μ-loop : tie.MeasureT-loop
-μ-loop table out₀ marks i₀ out i = 16 - i
+μ-loop table out₀ marks i₀ out i = variables - i
 
 loop-holds : tie.Need-loop-holds Inv-loop μ-loop
 unfolding markSpans
-loop-holds c = (search needs, refl, written-none (c .before .before .args .out .now))
+loop-holds c = (search needs, refl, sym (written-nil (c .before .before .args .out .now) 0))
 
 mul-m : tie.Need-mul-m Inv-loop μ-loop
 mul-m c = search needs
@@ -76,7 +78,7 @@ same-length c = c .before .loop .inv .1
 returns : tie.Need-returns Inv-loop μ-loop
 returns c =
     let o = c .before .loop in let g = c .before .before .before .before .args in
-    let end : o .i ≡ 16 = omega arith in
+    let end : o .i ≡ variables = omega arith in
     o .inv .2 ∙ ap (λ n. written (g .out .now) 0 (markSpans (g .table .now) (g .t2) n)) end
 
 pub write-spans-spec : {M : Type 1} → statement M
