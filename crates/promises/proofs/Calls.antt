@@ -43,9 +43,9 @@ pub build-settled : (a : Alphabet) (P : Programme) (r q : Check) (P′ Q′ : Pr
 build-settled a P r q P′ Q′ b c = (b .answer ∙ sym (c .answer), b .lists ∙ sym (c .lists))
 
 pub find-computed : (a : Alphabet) (P : Programme) (q y : List ℕ) (r : Found) (y′ : List ℕ) → Finds a P q y r y′
-    → (r ≡ found (findCheck a P q (length (listOf (a .arities) (P .row) q)) (length y)) (length (listOf (a .arities) (P .row) q)))
-    × (y′ ≡ after (findCheck a P q (length (listOf (a .arities) (P .row) q)) (length y)) (written y 0 (listOf (a .arities) (P .row) q)) y)
-find-computed a P q y r y′ f = finds-list a P q y r y′ f (listOf (a .arities) (P .row) q) (λ e. walk-lists a P q (search-checked a P q e))
+    → (r ≡ found (findCheck a P q (length (listOf a (P .row) q)) (length y)) (length (listOf a (P .row) q)))
+    × (y′ ≡ after (findCheck a P q (length (listOf a (P .row) q)) (length y)) (written y 0 (listOf a (P .row) q)) y)
+find-computed a P q y r y′ f = finds-list a P q y r y′ f (listOf a (P .row) q) (λ e. walk-lists a P q (search-checked a P q e))
 
 pub find-settled : (a : Alphabet) (P : Programme) (q y : List ℕ) (r s : Found) (y′ z′ : List ℕ) → Finds a P q y r y′ → Finds a P q y s z′ → (r ≡ s) × (y′ ≡ z′)
 find-settled a P q y r s y′ z′ f g =

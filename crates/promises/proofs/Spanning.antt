@@ -6,6 +6,7 @@ use mathlib.Core.List.{List, [], _∷_, _++_, map, map-append}
 use mathlib.Core.Bool.{Bool, true, false}
 use native.Mathlib.Omega.{arith}
 use lib.ListN.{getD}
+use Rattle.rows.specs.Limits.{variables}
 use Rattle.rows.specs.Tree.{Forest, Forest.none, Forest.grow, Tree, single, size, subtreeAt}
 use Rattle.rows.specs.Parse.{parse, treeOf, table}
 use Rattle.rows.specs.Row.{pick}
@@ -79,9 +80,9 @@ pub spans-stay : (A w w′ : List ℕ) (m x : ℕ → ℕ) (zero-stays : x 0 ≡
 spans-stay A w w′ m x zero-stays Q q q′ e shift all =
     let P : Forest = single (treeOf A Q) in
     let T : Forest = single (subtreeAt (parse A w) q) in
-    ap (λ (y : Tree). spansBelow (table A w′) 16 Q (faced q′ P (single y))) e
-    ∙ ap (spansBelow (table A w′) 16 Q) (faced-shift m P T q q′ shift)
-    ∙ spans-move (table A w) (table A w′) m x zero-stays 16 Q (faced q P T) (faced-in _ q P T all)
+    ap (λ (y : Tree). spansBelow (table A w′) variables Q (faced q′ P (single y))) e
+    ∙ ap (spansBelow (table A w′) variables Q) (faced-shift m P T q q′ shift)
+    ∙ spans-move (table A w) (table A w′) m x zero-stays variables Q (faced q P T) (faced-in _ q P T all)
 
 pub map-same : (x : ℕ → ℕ) (l : List ℕ) → ((k : ℕ) → x k ≡ k) → map x l ≡ l
 map-same x [] h = refl
