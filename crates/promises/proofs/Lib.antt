@@ -4,5 +4,4 @@ pub mod Calls
 pub mod Agreeing
 pub mod Plain
 pub mod Edits
-pub mod Numbers
 pub mod Demands

@@ -2,5 +2,4 @@ pub mod Calls
 pub mod Plain
 pub mod Runs
 pub mod Edits
-pub mod Numbers
 pub mod Demands
