@@ -1,8 +1,11 @@
-pub mod Holding
-pub mod Spanning
+pub mod Said
 pub mod Calls
 pub mod Agreeing
 pub mod Plain
+pub mod Holding
+pub mod Spanning
 pub mod Edits
-pub mod Numbers
+pub mod Demand1
+pub mod Demand2
+pub mod Demand3
 pub mod Demands

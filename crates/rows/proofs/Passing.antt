@@ -4,6 +4,7 @@ use Prim.Native.Nat.{ℕ, _<_, _≤_}
 use mathlib.Core.Path.{_≡_, refl}
 use mathlib.Core.Bool.{Bool, true, false}
 use native.Mathlib.Omega.{arith}
+use native.Mathlib.Decide.{decLt}
 use borrow.Author.Tests.{ltb-false, leb-false}
 use lib.Dec.{ltb, leb}
 use Rattle.rows.specs.Limits.{alphabetMost, rowMost}
@@ -19,6 +20,10 @@ use Rattle.rows.specs.declared.Refusal.the-variants.{Arities, Position, 
 use Rattle.rows.specs.declared.Check.{Check}
 use Rattle.rows.specs.declared.Check.the-variants.{Fine, Refused}
 use Rattle.rows.proofs.Scan.{sized-fits}
+
+-- by cases: below, or not
+pub below : (a b : ℕ) {G : Type 0} → (a < b → G) → (b ≤ a → G) → G
+below a b y n = elim (decLt a b) [ yes h ↦ y h | no h ↦ n (omega arith) ]
 
 -- a check that is fine does not refuse
 pub clash : (c : Check) (y : Refusal) → c ≡ Fine → c ≡ Refused y → ⊥

@@ -1,9 +1,9 @@
 -- The promises of specs/Promises, each with its proof.
 -- Assumes nothing.
-use mathlib.Core.Path.{sym, ap, _∙_}
+use mathlib.Core.Path.{refl, sym, ap, _∙_}
 use Rattle.rows.specs.Tree.{Forest, single, prefix, ends, subtreeAt}
 use Rattle.rows.specs.Parse.{table}
-use Rattle.rows.specs.Promises.{Reads-rows, Checksum-rule, One-tree, No-beginning, Tree-of-row, Table-of-row, Entry-of-table}
+use Rattle.rows.specs.Promises.{Reads-rows, Checksum-rule, One-tree, No-beginning, Tree-of-row, Table-of-row, Entry-of-table, The-limits}
 use Rattle.rows.proofs.Parse.{same-tree, no-longer}
 use Rattle.rows.proofs.Accept.{whole-iff-row, whole-of-row, parse-row, tree-row}
 use Rattle.rows.proofs.Checksum.{row-iff-checks}
@@ -37,4 +37,19 @@ entry-of-table A ok w r p h =
       within = b .1;
       subtree = ap (λ (f : Forest). prefix (single (subtreeAt f p))) (sym (parse-row A ok w r)) ∙ subtree-row A w p h;
       only = λ d lo hi q. entry-only A ok ok w 1 0 (whole-of-row A ok w r) p d h lo hi q;
+    }
+
+pub the-limits : The-limits
+the-limits =
+    record {
+      of-alphabet = refl;
+      of-arity = refl;
+      of-row = refl;
+      of-pattern = refl;
+      S = refl;
+      X0 = refl;
+      to-X15 = refl;
+      two-each = refl;
+      freed-in-row = refl;
+      freed-beside = refl;
     }

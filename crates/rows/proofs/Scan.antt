@@ -10,7 +10,7 @@ use native.Mathlib.Decide.{decLt}
 use lib.Dec.{ltb, eqb}
 use lib.ListN.{length, getD, take, drop, length-drop, drop-of-length-le}
 use lib.Seq.{drop-cons, length-take-le, getD-take, getD-drop}
-use borrow.Author.Tests.{lt-ltb, ltb-false}
+use borrow.Author.Tests.{lt-ltb, le-ltb, ltb-false}
 use Rattle.rows.specs.Row.{pick, verdict, ReadTo, SymbolsTo, allowed, sized}
 use Rattle.rows.specs.declared.Leaves.{Leaves}
 use Rattle.rows.specs.declared.Leaves.the-variants.{Symbols, Blanks}
@@ -127,3 +127,8 @@ sized-fits n m e = go (ltb n 1) (ltb m n) refl refl e
     go true b p q e = let z : _≡_ {A = ℕ} 0 1 = cc in absurd (omega arith)
     go false true p q e = let z : _≡_ {A = ℕ} 0 1 = cc in absurd (omega arith)
     go false false p q e = (ltb-false n 1 p, ltb-false m n q)
+
+-- and a length from 1 to the most is accepted
+pub sized-whole : (n most : ℕ) → 0 < n → n ≤ most → sized n most ≡ Whole
+unfolding sized
+sized-whole n most h k = rw (le-ltb n 1 h, le-ltb most n k) refl

@@ -30,6 +30,7 @@ pub const FIRST_VARIABLE: u16 = 65280;
 pub const VARIABLES: u16 = 16;
 
 pub const PAST_VARIABLES: u16 = FIRST_VARIABLE + VARIABLES;
+
 pub const SPAN_PLACES: usize = 32;
 
 pub const FREED_SYMBOL: u16 = 65535;
