@@ -21,6 +21,11 @@ use Rattle.plain.proofs.+children+node.Lts-children as children-lts
 use Rattle.plain.proofs.node.Reads as node
 use Rattle.plain.proofs.node.Kinds as node-kinds
 use Rattle.plain.proofs.+children+node.Lts-node as node-lts
+use Rattle.patterns.proofs.leaf_of.Reads as leaf-of-reads
+use Rattle.patterns.proofs.same.Reads as same-reads
+use Rattle.patterns.proofs.meet.Reads as meet-reads
+use Rattle.rows.proofs.arity_of.Reads as arity-of-reads
+use Rattle.plain.proofs.tree_length.Reads as tree-length-reads
 use Rattle.plain.proofs.+children+node.{statement}
 use Rattle.plain.proofs.+children+node.Tie.{close}
 
