@@ -6,6 +6,7 @@ use mathlib.Core.Path.{_≡_, refl, sym, ap, _∙_, subst}
 use mathlib.Core.List.{List, [], append-nil}
 use native.Mathlib.Omega.{arith}
 use lib.ListN.{length, getD, drop, drop-of-length-le}
+use Rattle.rows.specs.Programme.{Alphabet}
 use Rattle.rows.specs.Tree.{Forest, Forest.none, Forest.grow, Tree, single, size, count, prefix, ends, Ranked, subtreeAt}
 use Rattle.rows.specs.Parse.{first, parse, treeOf, table, behind}
 use Rattle.rows.specs.Row.{symbol, allowed}
@@ -15,7 +16,7 @@ use Rattle.rows.proofs.Parse.{prefix-parse, size-parse}
 use Rattle.rows.proofs.Accept.{count-parse, ranked-parse}
 use Rattle.rows.proofs.Entry.{behind-some, drop-table}
 use Rattle.rows.proofs.Subtrees.{subtree-first}
-use Rattle.patterns.specs.Pattern.{Matches}
+use Rattle.patterns.specs.Pattern.{Match}
 use Rattle.patterns.specs.Walk.{Outcome.misses, Outcome.reaches, walk, unmarked, MarksIn}
 use Rattle.patterns.proofs.Standing.{Stands, Planted, stands-first}
 use Rattle.patterns.proofs.Fits.{fits-matches, matches-fits}
@@ -50,79 +51,83 @@ planted-in A l r p h =
       ranked = subst (Ranked A (symbol A)) is (ranked-first A (symbol A) 1 g (ranked-drop A (symbol A) p l r));
     }
 
-module _ (A l q : List ℕ) (c : Tryable A l q) where
+module _ (a : Alphabet) (l q : List ℕ) (c : Tryable a l q) where
   some : 0 < length l
-  some = spells-some A (symbol A) 1 l (omega arith) (c .row)
+  some = spells-some (a .arities) (symbol (a .arities)) 1 l (omega arith) (c .row)
 
   start : starts l l ≡ 0
   start = omega arith
 
-  pattern : PatternOf A q
-  pattern = pattern-of A q (c .pattern)
+  pattern : PatternOf (a .arities) q
+  pattern = pattern-of (a .arities) q (c .pattern)
 
-  plant : Planted A l (table A l) 0 (treeOf A l)
-  plant = planted-in A l (c .row .ranked) 0 some
+  plant : Planted (a .arities) l (table (a .arities) l) 0 (treeOf (a .arities) l)
+  plant = planted-in (a .arities) l (c .row .ranked) 0 some
 
-  spelt : prefix (single (treeOf A q)) ≡ q
+  spelt : prefix (single (treeOf (a .arities) q)) ≡ q
   spelt = pattern .reads
 
   -- the walk comes through
-  came-matches : (j : ℕ) (ms : List ℕ) → walk l (table A l) q 0 unmarked ≡ reaches j ms → Matches (treeOf A q) (treeOf A l)
+  came-matches : (j : ℕ) (ms : List ℕ) → walk l (table (a .arities) l) 0 q 0 unmarked ≡ reaches j ms → Match (treeOf (a .arities) q) (treeOf (a .arities) l)
   unfolding walk count behind
   came-matches j ms z =
-      let r = sound A l (table A l) (c .few) (single (treeOf A q)) (single (treeOf A l)) 0 unmarked [] j ms (pattern .ranked) (plant .ranked) refl (plant .stands) (marks-none 0)
-      (ap (λ (u : List ℕ). walk l (table A l) u 0 unmarked) (append-nil (prefix (single (treeOf A q))) ∙ spelt) ∙ z) in
+      let r = sound (a .arities) l (table (a .arities) l) (c .few) (single (treeOf (a .arities) q)) (single (treeOf (a .arities) l)) 0 0 unmarked [] j ms (pattern .ranked) (plant .ranked) refl (plant .stands) (marks-none 0)
+      (ap (λ (u : List ℕ). walk l (table (a .arities) l) 0 u 0 unmarked) (append-nil (prefix (single (treeOf (a .arities) q))) ∙ spelt) ∙ z) in
       let same : r .0 ≡ ms = cc (r .2) in
-      let marks : MarksIn (0 + size (single (treeOf A l))) ms = subst (MarksIn (0 + size (single (treeOf A l)))) same (r .1) in
-      fits-matches at-marks (treeOf A q) (treeOf A l) (r .3 at-marks (record { all = λ i a y. agrees marks i a y }))
+      let marks : MarksIn (0 + size (single (treeOf (a .arities) l))) ms = subst (MarksIn (0 + size (single (treeOf (a .arities) l)))) same (r .1) in
+      fits-matches at-marks (treeOf (a .arities) q) (treeOf (a .arities) l) (r .3 at-marks (record { all = λ i n y. agrees marks i n y }))
     where
       -- the trees at the marks
       at-marks : ℕ → Tree
-      at-marks i = subtreeAt (parse A l) (getD ms i 0 - 1)
+      at-marks i = subtreeAt (parse (a .arities) l) (getD ms i 0 - 1)
 
-      agrees : MarksIn (0 + size (single (treeOf A l))) ms → (i a : ℕ) → getD ms i 0 ≡ suc a → Planted A l (table A l) a (at-marks i)
-      agrees m i a y =
-          let one : size (first 1 (parse A l)) ≡ size (single (treeOf A l)) = ap size (subtree-first A l 0 some) in
-          let at : a ≡ getD ms i 0 - 1 = omega arith in
-          subst (λ (n : ℕ). Planted A l (table A l) a (subtreeAt (parse A l) n)) at
-          (planted-in A l (c .row .ranked) a (omega (arith, m .all i, one, first-within A 1 l)))
+      agrees : MarksIn (0 + size (single (treeOf (a .arities) l))) ms → (i n : ℕ) → getD ms i 0 ≡ suc n → Planted (a .arities) l (table (a .arities) l) n (at-marks i)
+      agrees m i n y =
+          let one : size (first 1 (parse (a .arities) l)) ≡ size (single (treeOf (a .arities) l)) = ap size (subtree-first (a .arities) l 0 some) in
+          let at : n ≡ getD ms i 0 - 1 = omega arith in
+          subst (λ (k : ℕ). Planted (a .arities) l (table (a .arities) l) n (subtreeAt (parse (a .arities) l) k)) at
+          (planted-in (a .arities) l (c .row .ranked) n (omega (arith, m .all i, one, first-within (a .arities) 1 l)))
 
   -- it misses
-  missed : (x : ℕ) → walk l (table A l) q 0 unmarked ≡ misses x → Matches (treeOf A q) (treeOf A l) → ⊥
+  missed : (k x : ℕ) → walk l (table (a .arities) l) 0 q 0 unmarked ≡ misses k x → Match (treeOf (a .arities) q) (treeOf (a .arities) l) → ⊥
   unfolding walk
-  missed x z m =
-      let r = complete A l (table A l) (c .few) (single (treeOf A q)) (m .choice .forVariable) (single (treeOf A l)) 0 unmarked [] (pattern .ranked) (plant .ranked) (plant .stands)
-      (record { all = λ i a y. absurd (omega (arith, y, unmarked-zero i)) }) (matches-fits (treeOf A q) (treeOf A l) m) in
-      let came : walk l (table A l) q 0 unmarked ≡ reaches (0 + size (single (treeOf A l))) (r .0) =
-      ap (λ (u : List ℕ). walk l (table A l) u 0 unmarked) (sym (append-nil (prefix (single (treeOf A q))) ∙ spelt)) ∙ r .1 in
+  missed k x z m =
+      let r = complete (a .arities) l (table (a .arities) l) (c .few) (single (treeOf (a .arities) q)) (m .choice .forVariable) (single (treeOf (a .arities) l)) 0 0 unmarked [] (pattern .ranked) (plant .ranked) (plant .stands)
+      (record { all = λ i n y. absurd (omega (arith, y, unmarked-zero i)) }) (matches-fits (treeOf (a .arities) q) (treeOf (a .arities) l) m) in
+      let came : walk l (table (a .arities) l) 0 q 0 unmarked ≡ reaches (0 + size (single (treeOf (a .arities) l))) (r .0) =
+      ap (λ (u : List ℕ). walk l (table (a .arities) l) 0 u 0 unmarked) (sym (append-nil (prefix (single (treeOf (a .arities) q))) ∙ spelt)) ∙ r .1 in
       let no : _≡_ {A = ℕ} 0 1 = cc in
       omega arith
 
   -- the first tree of the pattern, tried at the part's start
-  pub lent-start : Lent A q l l unmarked 1
+  pub lent-start : Lent (a .arities) 0 q l l unmarked 1
   lent-start =
       record {
         few = c .few;
         most = c .most;
+        placed = omega (arith, pattern .most);
         end = ap (λ (n : ℕ). drop n l) (sym start);
         pattern =
             record {
-              ranked = ranked-parse A (allowed Blanks A) q 1 0 (pattern .whole);
-              many = omega (arith, count-parse A (allowed Blanks A) q 1 0 (pattern .whole));
+              ranked = ranked-parse (a .arities) (allowed Blanks (a .arities)) q 1 0 (pattern .whole);
+              many = omega (arith, count-parse (a .arities) (allowed Blanks (a .arities)) q 1 0 (pattern .whole));
             };
         row = c .row;
         marks = marks-none (starts l l);
       }
 
   -- it fits: it is the whole pattern, so the walk comes through
-  pub past-matches : (p n : ℕ) (ms : List ℕ) → Passes A q l l unmarked 1 p n ms → Matches (treeOf A q) (treeOf A l)
+  pub past-matches : (p n : ℕ) (ms : List ℕ) → Passes (a .arities) 0 q l l unmarked 1 p n ms → Match (treeOf (a .arities) q) (treeOf (a .arities) l)
   unfolding walk first
   past-matches p n ms h =
-      let whole : length q ≤ p = omega (arith, h .numbers, ap (λ (f : Forest). size (first 1 f)) (pattern .tree), ap size (pattern .tree), size-parse A q) in
+      let whole : length q ≤ p = omega (arith, h .numbers, ap (λ (f : Forest). size (first 1 f)) (pattern .tree), ap size (pattern .tree), size-parse (a .arities) q) in
       came-matches (starts l l + n) ms
-      (ap (λ (j : ℕ). walk l (table A l) q j unmarked) (sym start)
+      (ap (λ (j : ℕ). walk l (table (a .arities) l) 0 q j unmarked) (sym start)
       ∙ h .walks
-      ∙ ap (λ (u : List ℕ). walk l (table A l) u (starts l l + n) ms) (drop-of-length-le q whole))
+      ∙ ap (λ (u : List ℕ). walk l (table (a .arities) l) (0 + p) u (starts l l + n) ms) (drop-of-length-le q whole))
 
-  pub miss-differs : (x : ℕ) → walk l (table A l) q (starts l l) unmarked ≡ misses x → Matches (treeOf A q) (treeOf A l) → ⊥
-  miss-differs x z = missed x (ap (λ (j : ℕ). walk l (table A l) q j unmarked) (sym start) ∙ z)
+  -- it fails: so does the walk, at the same places, and there is no match
+  pub miss-differs : (k x : ℕ) → walk l (table (a .arities) l) 0 q (starts l l) unmarked ≡ misses k x → (Match (treeOf (a .arities) q) (treeOf (a .arities) l) → ⊥) × (walk l (table (a .arities) l) 0 q 0 unmarked ≡ misses k x)
+  miss-differs k x z =
+      let there : walk l (table (a .arities) l) 0 q 0 unmarked ≡ misses k x = ap (λ (j : ℕ). walk l (table (a .arities) l) 0 q j unmarked) (sym start) ∙ z in
+      (missed k x there, there)

@@ -1,33 +1,36 @@
 -- `plain::fits` meets its contract: the walk that the first node tells of is right.
 -- Assumes nothing.
-use Prim.Native.Nat.{ℕ}
-use mathlib.Core.Path.{_≡_, refl}
-use native.Mathlib.Omega.{arith}
+-- where the first node has told, what the function was given
+use Rattle.rows.specs.Programme.{Alphabet, alphabetOf}
 use Rattle.plain.proofs.Parting.{lent-start, past-matches, miss-differs}
 use borrow.Author.Needs.{needs}
 use Rattle.plain.proofs.fits.Statement.{statement}
 use Rattle.plain.proofs.fits.Tie as tie
 
+abbrev start : tie.After-node → tie.Start
+start n = n .before .before .before .before .before
+
+abbrev given : tie.Start → Alphabet
+given s = alphabetOf (s .args .arities .now)
+
 node-requires : tie.Need-node-requires
-node-requires c κs = let s = c .before .before .before .before in lent-start _ _ _ (s .pre)
+node-requires c κs = let s = c .before .before .before .before in lent-start (given s) _ _ (s .pre)
 
 enum-told : tie.Need-enum-told
 enum-told c = search needs
 
-enum-told-2 : tie.Need-enum-told-2
-enum-told-2 c = search needs
+enum-known-tried : tie.Need-enum-known-tried
+enum-known-tried c = search needs
 
 returns : tie.Need-returns
 returns c =
-    let s = c .before .before .before .before .before .before .before in
-    (λ e. past-matches _ _ _ (s .pre) _ _ _ (c .before .before .node .ensures .past _ _ (c .enum-told .given .1)), λ m. refl)
+    let n = c .before .before in let s = start n in
+    past-matches (given s) _ _ (s .pre) _ _ _ (n .node .ensures .past _ _ (c .enum-told .given .1))
 
 returns-2 : tie.Need-returns-2
 returns-2 c =
-    let s = c .before .before .before .before .before .before .before in (
-      λ e. (let z : _≡_ {A = ℕ} 0 1 = cc in absurd (omega arith)),
-      λ m. absurd (miss-differs _ _ _ (s .pre) _ (c .before .before .node .ensures .miss _ (c .enum-told2 .given .1)) m),
-    )
+    let n = c .before .before .before in let s = start n in
+    miss-differs (given s) _ _ (s .pre) _ _ (n .node .ensures .miss _ _ (c .before .tried .given .1))
 
 pub fits-spec : {M : Type 1} → statement M
-fits-spec = tie.close (tie.spec node-requires enum-told enum-told-2 returns returns-2)
+fits-spec = tie.close (tie.spec node-requires enum-told enum-known-tried returns returns-2)
