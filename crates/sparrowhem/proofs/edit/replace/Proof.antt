@@ -1,26 +1,53 @@
 -- `sparrowhem::replace` meets its contract. Row and table are changed where nothing is refused.
 -- Assumes nothing.
 use mathlib.Core.Path.{_≡_, sym, ap, ap₂, _∙_}
+use mathlib.Core.List.{List}
 use Prim.Native.Nat.{ℕ}
 use lib.IntN.{pos, _-ℤ_}
-use denote.Ref.{now}
 use mir.Syntax.{w32}
 use mir.Val.{toZ, ofZ}
 use mir.Facts.{toZ-ofZ}
-use Rattle.rows.specs.Programme.{alphabetOf, programme}
-use Rattle.sparrowhem.specs.declared.edit.Replaced.the-variants.{Done}
+use Rattle.rows.specs.Programme.{Alphabet, Programme, alphabetOf, programme}
 use Rattle.rows.specs.Buffers.{after}
 use Rattle.rows.specs.declared.Check.{Check}
 use Rattle.rows.specs.declared.Check.the-variants.{Fine}
+use Rattle.edits.specs.Replace.{Replaceable}
 use Rattle.checks.specs.Checks.{replaceCheck}
 use Rattle.checks.proofs.Replacing.{replace-able, able-sizes}
+use Rattle.sparrowhem.specs.Edit.{newTree, holding}
+use Rattle.sparrowhem.specs.declared.edit.Replaced.the-variants.{Done}
 use borrow.Author.Needs.{needs}
 use Rattle.sparrowhem.proofs.edit.replace.Statement.{statement}
 use Rattle.sparrowhem.proofs.edit.replace.Tie as tie
 
-fine : (c : tie.After-enum-told)
-    → replaceCheck (alphabetOf (now (c .before .before .before .before .before .before .before .before .before .args .arities))) (programme (now (c .before .before .before .before .before .before .before .before .before .args .row)) (now (c .before .before .before .before .before .before .before .before .before .args .table))) (c .before .before .before .before .before .before .before .before .before .args .row-length) (now (c .before .before .before .before .before .before .before .before .before .args .replacement)) (c .before .before .before .before .before .before .before .before .before .args .position) ≡ Fine
+-- what the call is lent
+abbrev start : tie.After-check-replace → tie.Start
+start c = c .before .before .before .before .before .before .before
+
+abbrev a : tie.After-check-replace → Alphabet
+a c = alphabetOf (start c .args .arities .now)
+
+abbrev P : tie.After-check-replace → Programme
+P c = programme (start c .args .row .now) (start c .args .table .now)
+
+abbrev n : tie.After-check-replace → ℕ
+n c = start c .args .row-length
+
+abbrev v : tie.After-check-replace → List ℕ
+v c = start c .args .replacement .now
+
+abbrev p : tie.After-check-replace → ℕ
+p c = start c .args .position
+
+-- what the lists hold afterwards, by what the check says
+abbrev left : tie.After-check-replace → Check → Programme
+left c x = after x (holding (P c) (n c) (newTree (a c) (P c) (n c) (v c) (p c))) (P c)
+
+fine : (c : tie.After-enum-told) → (let s = c .before .before in replaceCheck (a s) (P s) (n s) (v s) (p s) ≡ Fine)
 fine c = sym (c .before .before .check-replace .ensures) ∙ c .enum-told .given .1
+
+able : (c : tie.After-enum-told) → (let s = c .before .before in Replaceable (a s .arities) (P s .row) (P s .table) (n s) (v s) (p s))
+able c = let s = c .before .before in replace-able (a s) (P s) (n s) (v s) (p s) (fine c)
 
 check-replace-requires : tie.Need-check-replace-requires
 check-replace-requires c κs = search needs
@@ -32,16 +59,14 @@ enum-told : tie.Need-enum-told
 enum-told c = search needs
 
 replace-at-requires : tie.Need-replace-at-requires
-replace-at-requires c κs =
-    let a = c .before .before .before .before .before .before .before .before .before .before .before .args in
-    replace-able (alphabetOf (now (a .arities))) (programme (now (a .row)) (now (a .table))) (a .row-length) (now (a .replacement)) (a .position) (fine (c .before .before))
+replace-at-requires c κs = able (c .before .before)
 
 change-requires : tie.Need-change-requires
 change-requires c κs =
-    let a = c .before .before .before .before .before .before .before .before .before .before .before .before .before .before .before .before .args in
-    able-sizes (now (a .arities)) (now (a .row)) (now (a .table)) (a .row-length) (now (a .replacement)) (a .position) (c .before .before .before .before .replace-at .result)
-    (replace-able (alphabetOf (now (a .arities))) (programme (now (a .row)) (now (a .table))) (a .row-length) (now (a .replacement)) (a .position) (fine (c .before .before .before .before .before .before .before)))
-    (c .before .before .before .before .replace-at .ensures .length-now)
+    let r = c .before .before .before .before in
+    let o = r .before .before .before in
+    let s = o .before .before in
+    able-sizes (a s .arities) (P s .row) (P s .table) (n s) (v s) (p s) (r .replace-at .result) (able o) (r .replace-at .ensures .length-now)
 
 same-length : tie.Need-same-length
 same-length c = search needs
@@ -51,8 +76,9 @@ same-length-2 c = search needs
 
 returns : tie.Need-returns
 returns c =
-    let e = sym (c .before .before .before .check-replace .ensures) ∙ c .before .r .given .1 in
-    record { answer = simp e; lists = sym (ap (λ (x : Check). after x _ _) e) }
+    let s = c .before .before .before in
+    let e = sym (s .check-replace .ensures) ∙ c .before .r .given .1 in
+    record { answer = simp e; lists = sym (ap (left s) e) }
 
 same-length-3 : tie.Need-same-length-3
 same-length-3 c = search needs
@@ -62,13 +88,15 @@ same-length-4 c = search needs
 
 returns-2 : tie.Need-returns-2
 returns-2 c =
-    let e = fine (c .before .before .before .before .before .before .before .before) in
-    let r = c .before .before .before .before .before .replace-at .ensures in
-    let z : toZ w32 (ofZ w32 (c .change .result)) ≡ pos (c .before .before .before .before .before .replace-at .result) -ℤ pos (c .before .before .before .before .before .before .before .before .before .before .before .before .before .before .before .before .before .args .row-length) =
-    toZ-ofZ {w = w32} {z = c .change .result} (search needs) ∙ c .change .ensures in
+    let r = c .before .before .before .before .before in
+    let o = r .before .before .before in
+    let s = o .before .before in
+    let m : ℕ = r .replace-at .result in
+    let now = r .replace-at .ensures in
+    let by : toZ w32 (ofZ w32 (c .change .result)) ≡ pos m -ℤ pos (n s) = toZ-ofZ {w = w32} {z = c .change .result} (search needs) ∙ c .change .ensures in
     record {
-      answer = simp e (ap (Done (c .before .before .before .before .before .replace-at .result)) z ∙ ap (λ (m : ℕ). Done m (pos m -ℤ pos (c .before .before .before .before .before .before .before .before .before .before .before .before .before .before .before .before .before .args .row-length))) (r .length-now));
-      lists = ap₂ programme (r .row-now) (r .table-now) ∙ sym (ap (λ (x : Check). after x _ _) e);
+      answer = simp (fine o) (ap (Done m) by ∙ ap (λ (k : ℕ). Done k (pos k -ℤ pos (n s))) (now .length-now));
+      lists = ap₂ programme (now .row-now) (now .table-now) ∙ sym (ap (left s) (fine o));
     }
 
 pub replace-spec : {M : Type 1} → statement M

@@ -1,9 +1,14 @@
 -- `sparrowhem::parts::newer_answer` meets its contract: what the checks leave is searched, the corrected row first.
 -- Assumes nothing.
-use mathlib.Core.Path.{_≡_, sym, _∙_}
+use Prim.Native.Nat.{ℕ}
+use mathlib.Core.Path.{_≡_, sym, _∙_, subst}
+use mathlib.Core.List.{List}
 use native.Mathlib.Omega.{arith}
+use Rattle.rows.specs.Programme.{Alphabet, Programme, alphabetOf, programme}
 use Rattle.rows.specs.declared.Check.the-variants.{Fine}
 use Rattle.patterns.specs.Searchable.{Checked}
+use Rattle.searches.specs.Searches.{NextIs}
+use Rattle.searches.specs.declared.Next.{Next}
 use Rattle.checks.specs.Checks.{newerCheck}
 use Rattle.checks.proofs.Passing.{newer-checked}
 use Rattle.sparrowhem.proofs.Preferring.{first-match, no-match}
@@ -11,18 +16,41 @@ use borrow.Author.Needs.{needs}
 use Rattle.sparrowhem.proofs.parts.newer_answer.Statement.{statement}
 use Rattle.sparrowhem.proofs.parts.newer_answer.Tie as tie
 
+-- what the call is lent
+abbrev start : tie.After-check-newer → tie.Start
+start c = c .before .before .before .before .before .before .before
+
+abbrev a : tie.After-check-newer → Alphabet
+a c = alphabetOf (start c .args .arities .now)
+
+abbrev P : tie.After-check-newer → Programme
+P c = programme (start c .args .corrected .now) (start c .args .corrected-table .now)
+
+abbrev O : tie.After-check-newer → Programme
+O c = programme (start c .args .«record» .now) (start c .args .record-table .now)
+
+abbrev q : tie.After-check-newer → List ℕ
+q c = start c .args .pattern .now
+
 -- nothing is refused
-fine : (c : tie.After-enum-told)
-    → (let a = c .before .before .before .before .before .before .before .before .before .args in newerCheck (a .arities .now) (a .corrected .now) (a .corrected-table .now) (a .«record» .now) (a .record-table .now) (a .pattern .now) ≡ Fine)
+fine : (c : tie.After-enum-told) → (let s = c .before .before in newerCheck (a s) (P s) (O s) (q s) ≡ Fine)
 fine c = sym (c .before .before .check-newer .ensures) ∙ c .enum-told .given .1
 
-corrected-checked : (c : tie.After-enum-told)
-    → (let a = c .before .before .before .before .before .before .before .before .before .args in Checked (a .arities .now) (a .corrected .now) (a .corrected-table .now) (a .pattern .now))
-corrected-checked c = newer-checked _ _ _ _ _ _ (fine c) .0
+both : (c : tie.After-enum-told) → (let s = c .before .before in Checked (a s) (P s) (q s) × Checked (a s) (O s) (q s))
+both c = let s = c .before .before in newer-checked (a s) (P s) (O s) (q s) (fine c)
 
-record-checked : (c : tie.After-enum-told)
-    → (let a = c .before .before .before .before .before .before .before .before .before .args in Checked (a .arities .now) (a .«record» .now) (a .record-table .now) (a .pattern .now))
-record-checked c = newer-checked _ _ _ _ _ _ (fine c) .1
+-- what the search of each row says of an answer that is known
+in-corrected : (c : tie.After-next-match) (r : Next) → c .next-match .result ≡ r → (let s = c .before .before .before in NextIs (a s) (P s .row) (q s) 0 r)
+in-corrected c r e =
+    let s = c .before .before .before in
+    subst (NextIs (a s) (P s .row) (q s) 0) e (c .next-match .ensures (a s) (both (c .before) .0))
+
+in-record : (c : tie.After-next-match2) (r : Next) → c .next-match2 .result ≡ r
+    → (let s = c .before .before .before .before .before .before in NextIs (a s) (O s .row) (q s) 0 r)
+in-record c r e =
+    let n = c .before .before .before in
+    let s = n .before .before .before in
+    subst (NextIs (a s) (O s .row) (q s) 0) e (c .next-match2 .ensures (a s) (both (n .before) .1))
 
 check-newer-requires : tie.Need-check-newer-requires
 check-newer-requires c κs = search needs
@@ -34,56 +62,70 @@ enum-told : tie.Need-enum-told
 enum-told c = search needs
 
 next-match-requires : tie.Need-next-match-requires
-next-match-requires c κs = ((_, corrected-checked c), omega arith)
+next-match-requires c κs = ((_, both c .0), omega arith)
 
-mul-t14 : tie.Need-mul-t14
-mul-t14 c = search needs
+enum-known-p : tie.Need-enum-known-p
+enum-known-p c = search needs
 
-shared-slice-read-t16 : tie.Need-shared-slice-read-t16
-shared-slice-read-t16 c = omega (arith, corrected-checked (c .before .before .before) .row .sized .fits, c .before .if1 .taken)
+mul-t13 : tie.Need-mul-t13
+mul-t13 c = let n = c .before .before .before in omega (arith, both (n .before) .0 .row .sized .most, in-corrected n _ (c .before .p .given .1) .within)
 
-cast-t17 : tie.Need-cast-t17
-cast-t17 c = omega (arith, c .shared-slice-known7 .given (c .before .before .next-match .result))
+shared-slice-read-t15 : tie.Need-shared-slice-read-t15
+shared-slice-read-t15 c =
+    let n = c .before .before .before .before in
+    omega (arith, both (n .before) .0 .row .sized .fits, in-corrected n _ (c .before .before .p .given .1) .within)
+
+cast-t16 : tie.Need-cast-t16
+cast-t16 c = omega (arith, c .shared-slice-known7 .given (c .before .before .p .given .0 .0))
 
 returns : tie.Need-returns
 returns c =
-    let o = c .before .before .before in
-    (fine o, first-match _ _ _ _ (corrected-checked o) _ (c .before .before .next-match .ensures _ (corrected-checked o)) (c .before .if1 .taken))
+    let n = c .before .before .before .before in
+    let o = n .before in
+    let s = o .before .before in
+    (fine o, first-match (a s) (P s) (q s) (both o .0) _ (in-corrected n _ (c .before .before .p .given .1)))
+
+enum-told-2 : tie.Need-enum-told-2
+enum-told-2 c = search needs
 
 next-match-requires-2 : tie.Need-next-match-requires-2
-next-match-requires-2 c κs = ((_, record-checked (c .before .before)), omega arith)
+next-match-requires-2 c κs = ((_, both (c .before .before .before) .1), omega arith)
 
-mul-t18 : tie.Need-mul-t18
-mul-t18 c = search needs
+enum-known-p-2 : tie.Need-enum-known-p-2
+enum-known-p-2 c = search needs
 
-shared-slice-read-t20 : tie.Need-shared-slice-read-t20
-shared-slice-read-t20 c = omega (arith, record-checked (c .before .before .before .before .before) .row .sized .fits, c .before .if2 .taken)
+mul-t19 : tie.Need-mul-t19
+mul-t19 c = let m = c .before .before .before in omega (arith, both (m .before .before .before .before) .1 .row .sized .most, in-record m _ (c .before .p2 .given .1) .within)
 
-cast-t21 : tie.Need-cast-t21
-cast-t21 c = omega (arith, c .shared-slice-known8 .given (c .before .before .next-match2 .result))
+shared-slice-read-t21 : tie.Need-shared-slice-read-t21
+shared-slice-read-t21 c =
+    let m = c .before .before .before .before in
+    omega (arith, both (m .before .before .before .before) .1 .row .sized .fits, in-record m _ (c .before .before .p2 .given .1) .within)
+
+cast-t22 : tie.Need-cast-t22
+cast-t22 c = omega (arith, c .shared-slice-known8 .given (c .before .before .p2 .given .0 .0))
+
+enum-told-3 : tie.Need-enum-told-3
+enum-told-3 c = search needs
 
 returns-2 : tie.Need-returns-2
-returns-2 c =
-    let m = c .before .before in
-    let n = m .before .before in
-    let o = n .before in (
-      fine o,
-      no-match _ _ _ _ (corrected-checked o) _ (n .next-match .ensures _ (corrected-checked o)) (m .before .if1 .left),
-      first-match _ _ _ _ (record-checked o) _ (m .next-match2 .ensures _ (record-checked o)) (c .before .if2 .taken),
-    )
+returns-2 c = sym (c .before .before .before .check-newer .ensures) ∙ c .before .r .given .1
 
 returns-3 : tie.Need-returns-3
-returns-3 c = sym (c .before .before .before .check-newer .ensures) ∙ c .before .r .given .1
+returns-3 c =
+    let m = c .before .before .before .before in
+    let n = m .before .before .before in
+    let o = n .before in
+    let s = o .before .before in
+    (fine o, no-match (a s) (P s) (q s) (in-corrected n _ (m .before .enum-told2 .given .1)), first-match (a s) (O s) (q s) (both o .1) _ (in-record m _ (c .before .before .p2 .given .1)))
 
 returns-4 : tie.Need-returns-4
 returns-4 c =
-    let m = c .before in
-    let n = m .before .before in
-    let o = n .before in (
-      fine o,
-      no-match _ _ _ _ (corrected-checked o) _ (n .next-match .ensures _ (corrected-checked o)) (m .before .if1 .left),
-      no-match _ _ _ _ (record-checked o) _ (m .next-match2 .ensures _ (record-checked o)) (c .if2 .left),
-    )
+    let m = c .before .before in
+    let n = m .before .before .before in
+    let o = n .before in
+    let s = o .before .before in
+    (fine o, no-match (a s) (P s) (q s) (in-corrected n _ (m .before .enum-told2 .given .1)), no-match (a s) (O s) (q s) (in-record m _ (c .enum-told3 .given .1)))
 
 pub newer-answer-spec : {M : Type 1} → statement M
 newer-answer-spec =
@@ -93,14 +135,18 @@ newer-answer-spec =
     enum-known-r
     enum-told
     next-match-requires
-    mul-t14
-    shared-slice-read-t16
-    cast-t17
+    enum-known-p
+    mul-t13
+    shared-slice-read-t15
+    cast-t16
     returns
+    enum-told-2
     next-match-requires-2
-    mul-t18
-    shared-slice-read-t20
-    cast-t21
+    enum-known-p-2
+    mul-t19
+    shared-slice-read-t21
+    cast-t22
+    enum-told-3
     returns-2
     returns-3
     returns-4)

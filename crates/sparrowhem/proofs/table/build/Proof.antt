@@ -1,20 +1,30 @@
 -- `sparrowhem::build` meets its contract. The table is filled where nothing is refused.
 -- Assumes nothing.
 use mathlib.Core.Path.{_≡_, sym, ap, _∙_}
-use Rattle.rows.specs.Programme.{alphabetOf, programme}
+use Rattle.rows.specs.Programme.{Alphabet, Programme, alphabetOf, programme}
 use Rattle.rows.specs.Parse.{table}
 use Rattle.rows.specs.Buffers.{after}
 use Rattle.rows.specs.declared.Check.{Check}
 use Rattle.rows.specs.declared.Check.the-variants.{Fine}
 use Rattle.checks.specs.Checks.{buildCheck}
 use Rattle.checks.proofs.Building.{build-fillable}
+use Rattle.sparrowhem.specs.Build.{built}
 use borrow.Author.Needs.{needs}
 use Rattle.sparrowhem.proofs.table.build.Statement.{statement}
 use Rattle.sparrowhem.proofs.table.build.Tie as tie
 
-fine : (c : tie.After-fill-ends-arg)
-    → (let a = c .before .before .before .before .before .before .before .args in buildCheck (alphabetOf (a .arities .now)) (programme (a .row .now) (a .table .now)) ≡ Fine)
-fine c = sym (c .before .before .before .check-build .ensures) ∙ c .before .enum-told .given .1
+-- what the call is lent
+abbrev start : tie.After-check-build → tie.Start
+start c = c .before .before .before .before .before
+
+abbrev a : tie.After-check-build → Alphabet
+a c = alphabetOf (start c .args .arities .now)
+
+abbrev P : tie.After-check-build → Programme
+P c = programme (start c .args .row .now) (start c .args .table .now)
+
+fine : (c : tie.After-enum-told) → buildCheck (a (c .before .before)) (P (c .before .before)) ≡ Fine
+fine c = sym (c .before .before .check-build .ensures) ∙ c .enum-told .given .1
 
 check-build-requires : tie.Need-check-build-requires
 check-build-requires c κs = search needs
@@ -26,23 +36,27 @@ enum-told : tie.Need-enum-told
 enum-told c = search needs
 
 fill-ends-requires : tie.Need-fill-ends-requires
-fill-ends-requires c κs =
-    let a = c .before .before .before .before .before .before .before .args in
-    build-fillable (alphabetOf (a .arities .now)) (programme (a .row .now) (a .table .now)) (fine c)
-
-returns : tie.Need-returns
-returns c =
-    let e = sym (c .before .before .before .check-build .ensures) ∙ c .before .r .given .1 in
-    record { answer = sym e; lists = sym (ap (λ (x : Check). after x _ _) e) }
+fill-ends-requires c κs = build-fillable (a (c .before .before .before)) (P (c .before .before .before)) (fine (c .before))
 
 same-length : tie.Need-same-length
 same-length c = search needs
 
+returns : tie.Need-returns
+returns c =
+    let b = c .before .before .before in
+    let e = sym (b .check-build .ensures) ∙ c .before .r .given .1 in
+    record { answer = sym e; lists = sym (ap (λ (x : Check). after x (built (a b) (P b)) (P b)) e) }
+
+same-length-2 : tie.Need-same-length-2
+same-length-2 c = search needs
+
 returns-2 : tie.Need-returns-2
 unfolding table
 returns-2 c =
-    let e = fine (c .before .before .before) in
-    record { answer = sym e; lists = ap (programme _) (c .before .before .fill-ends .ensures) ∙ sym (ap (λ (x : Check). after x _ _) e) }
+    let f = c .before .before in
+    let b = f .before .before .before .before in
+    let e = fine (f .before .before) in
+    record { answer = sym e; lists = ap (programme (P b .row)) (f .fill-ends .ensures) ∙ sym (ap (λ (x : Check). after x (built (a b) (P b)) (P b)) e) }
 
 pub build-spec : {M : Type 1} → statement M
 build-spec =
@@ -52,6 +66,7 @@ build-spec =
     enum-known-r
     enum-told
     fill-ends-requires
-    returns
     same-length
+    returns
+    same-length-2
     returns-2)
