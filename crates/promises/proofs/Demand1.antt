@@ -1,6 +1,6 @@
 -- Demand 1 of specs/Demands, each sentence with its proof.
 -- Assumes nothing.
-use Prim.Native.Nat.{ℕ, zero, suc, _+_, _<_, _*_}
+use Prim.Native.Nat.{ℕ, zero, suc, _+_, _≤_, _<_, _*_}
 use mathlib.Core.Path.{_≡_, refl, sym, ap, ap₂, _∙_, subst}
 use mathlib.Core.List.{List, []}
 use mathlib.Core.Bool.{Bool, true, false}
@@ -8,19 +8,22 @@ use mathlib.Core.Logic.{_↔_, _⊎_, inl, inr, ⊎-elim}
 use native.Mathlib.Omega.{arith}
 use native.Mathlib.Decide.{decLt}
 use borrow.Author.Tests.{lt-ltb, le-ltb}
-use lib.ListN.{length, getD}
+use lib.ListN.{length, getD, length-take}
 use Rattle.rows.specs.Programme.{Alphabet, Programme, programme, room, front}
 use Rattle.rows.specs.Tree.{Forest, size}
 use Rattle.rows.specs.Parse.{table}
-use Rattle.rows.specs.Row.{pick}
+use Rattle.rows.specs.Limits.{rowMost, spanPlaces}
+use Rattle.rows.specs.Row.{pick, sized, verdict, allowed}
+use Rattle.rows.specs.declared.Leaves.the-variants.{Symbols}
+use Rattle.rows.specs.declared.Kept.{Kept}
 use Rattle.rows.specs.Buffers.{written, after, One}
-use Rattle.rows.specs.Refusals.{_then_, alphabet, sizes, symbols, fresh, kept, given, pattern, position, output}
+use Rattle.rows.specs.Refusals.{_then_, asKept, alphabet, sizes, symbols, fresh, kept, given, pattern, replacement, position, grown, output}
 use Rattle.rows.specs.declared.Refusal.{Refusal}
 use Rattle.rows.specs.declared.Refusal.the-variants.{Row, OnRecord as RecordRow, OutputShort}
 use Rattle.rows.specs.declared.Check.{Check}
 use Rattle.rows.specs.declared.Check.the-variants.{Fine, Refused}
 use Rattle.rows.proofs.Entry.{length-table}
-use Rattle.rows.proofs.Passing.{clash, both-fine, row-fine, sizes-fits, position-fine}
+use Rattle.rows.proofs.Passing.{Fits, both-fine, row-fine, sizes-fits, position-fine}
 use Rattle.refusal_numbers.specs.Numbers.{number, place}
 use Rattle.refusal_numbers.specs.Table.{Refuses}
 use Rattle.refusal_numbers.proofs.Table.{table as table-of-refusals}
@@ -45,14 +48,14 @@ use Rattle.sparrowhem.specs.declared.parts.Placed.{Placed}
 use Rattle.sparrowhem.specs.declared.parts.Placed.the-variants.{Span, Refused as Unplaced}
 use Rattle.sparrowhem.specs.declared.parts.Newest.{Newest}
 use Rattle.sparrowhem.specs.declared.parts.Newest.the-variants.{Corrected, OnRecord, Nowhere, Refused as NewestRefused}
-use Rattle.sparrowhem.specs.declared.matcher.Fits.{Fits}
+use Rattle.sparrowhem.specs.declared.matcher.Fits.{Fits as Fitting}
 use Rattle.sparrowhem.specs.declared.matcher.Fits.the-variants.{Yes, No, Refused as PlainRefused}
 use Rattle.sparrowhem.proofs.Preferring.{one-answer}
 use Rattle.sparrowhem.proofs.Searching.{finds-list}
 use Rattle.promises.specs.Demands.{Build-one, Find-one, Variables-one, Replace-one, Subtree-one, Subtree-place-one, Newer-one, Newer-place-one, Plain-one, Build-order, Find-order, Variables-order, Replace-order, Subtree-order, Newer-order, Plain-order, Find-short, Build-refused, Find-refused, Variables-refused, Replace-refused, StaleAt, Find-stale, Variables-stale, Replace-stale, Subtree-stale, Newer-stale, Newer-refused}
 use Rattle.promises.proofs.Said.{apart, refusal-said, check-said, found-said, bound-said, answered-said, placed-said, check-refusal, found-refusal, bound-refusal, replaced-refusal, newest-refusal, fits-refusal}
 use Rattle.promises.proofs.Calls.{build-settled, find-settled, variables-settled, replace-settled, lies-settled, newer-settled, newer-place-settled, plain-settled, build-kept, find-kept, variables-kept}
-use Rattle.promises.proofs.Agreeing.{rowCheck, search-left, plain-left}
+use Rattle.promises.proofs.Agreeing.{rowCheck, left-row, search-left, plain-left}
 use Rattle.promises.proofs.Holding.{stayed}
 
 -- ---- one outcome
@@ -216,17 +219,23 @@ plain-checked a w q p e =
     let left : Programme = b .some .1 in
     let long : length w ≤ room old = omega (arith, length-table (a .arities) w) in
     let both = both-fine (rowCheck a w then pattern (a .arities) q) (position (length w) p) (sym (plain-left a w q p) ∙ e) in
-    ?
+    let same = left-row a old (b .some .0) left long (b .holds) in
+    let fine : searchCheck a left q ≡ Fine =
+    search-left a old (b .some .0) left long (b .holds) q ∙ ap (λ (l : List ℕ). rowCheck a l then pattern (a .arities) q) same ∙ both .0 in (
+      left .table,
+      subst (λ (l : List ℕ). Checked a (programme l (left .table)) q) same (search-checked a left q fine),
+      position-fine (length w) p (both .1),
+    )
 
-plain-some : (a : Alphabet) (w q : List ℕ) (p : ℕ) → (r : Fits) × PlainSays a w q p r
+plain-some : (a : Alphabet) (w q : List ℕ) (p : ℕ) → (r : Fitting) × PlainSays a w q p r
 plain-some a w q p = go (plainCheck a w q p) refl
   where
-    go : (c : Check) → plainCheck a w q p ≡ c → (r : Fits) × PlainSays a w q p r
+    go : (c : Check) → plainCheck a w q p ≡ c → (r : Fitting) × PlainSays a w q p r
     go (Refused x) e = (PlainRefused x, e)
     go Fine e = let c = plain-checked a w q p e in tells (comesThrough w (table (a .arities) w) q p) refl (walk-right a (programme w (c .0)) q (c .1) p (c .2))
       where
         tells : (b : Bool) → comesThrough w (table (a .arities) w) q p ≡ b → (comesThrough w (table (a .arities) w) q p ≡ true) ↔ MatchesAt a w q p
-            → (r : Fits) × PlainSays a w q p r
+            → (r : Fitting) × PlainSays a w q p r
         tells true z m = (Yes, (e, m .0 z))
         tells false z m = (No, (e, λ x. (let d = m .1 x in let k : _≡_ {A = ℕ} 0 1 = cc in omega arith)))
 
@@ -283,7 +292,7 @@ plain-order a w q p r h k x = (
 
 pub find-short : Find-short
 unfolding findCheck output
-find-short a P q y r y′ f e ps l = (λ z. go (decLt (length y) (length ps)) z, λ h. ap foundSaid (answer ∙ rw (lt-ltb (length y) (length ps) h) refl))
+find-short a P q y r y′ f e ps l = (λ z. go (decLt (length y) (length ps)) z, λ h. (let short : r ≡ FindRefused (OutputShort (length ps)) = answer ∙ rw (lt-ltb (length y) (length ps) h) refl in ap foundSaid short))
   where
     answer : r ≡ found (output (length ps) (length y)) (length ps)
     answer = finds-list a P q y r y′ f ps (λ e. l) .0 ∙ ap (λ (c : Check). found (c then output (length ps) (length y)) (length ps)) e
@@ -311,6 +320,13 @@ replace-refused a P n v p r P′ o k x e = let z = replaced-refusal r k x e in s
 -- ---- a stale table
 
 -- the chain from 1 to 10 refuses a stale table, whatever comes behind it
+-- 6 leaves a table with room for the row
+stale-room : (a : Alphabet) (P : Programme) (n p : ℕ) → StaleAt a P n p → length (front n P .row) ≤ length (P .table)
+stale-room a P n p s =
+    let x = both-fine (alphabet a) (sizes Row n (room P) then symbols Row (a .arities) (front n P .row)) (s .earlier) in
+    let fits = sizes-fits Row n (room P) (both-fine (sizes Row n (room P)) (symbols Row (a .arities) (front n P .row)) (x .1) .0) in
+    omega (arith, fits .room, length-take n (P .row))
+
 stale-given : (a : Alphabet) (P : Programme) (n p : ℕ) → StaleAt a P n p → Refuses (given a P n) 10 p
 unfolding given kept
 stale-given a P n p s =
@@ -318,41 +334,60 @@ stale-given a P n p s =
     let w : List ℕ = front n P .row in
     let x = both-fine (alphabet a) (sizes Row n (room P) then symbols Row A w) (s .earlier) in
     let y = both-fine (sizes Row n (room P)) (symbols Row A w) (x .1) in
-    rw (x .0, y .0, y .1) (table-of-refusals .stale A w (P .table) 10 p ? .1 (refl, s .first))
+    rw (x .0, y .0, y .1) (table-of-refusals .stale A w (P .table) 10 p (stale-room a P n p s) .1 (refl, s .first))
 
 on-refuses : (c d : Check) (k x : ℕ) → Refuses c k x → Refuses (c then d) k x
 on-refuses c d k x h = table-of-refusals .order c d k x .1 (inl h)
 
+stale-search : (a : Alphabet) (P : Programme) (q : List ℕ) (p : ℕ) → StaleAt a P (length (P .row)) p → Refuses (searchCheck a P q) 10 p
+unfolding searchCheck
+stale-search a P q p s = on-refuses (given a P (length (P .row))) (pattern (a .arities) q) 10 p (stale-given a P (length (P .row)) p s)
+
 pub find-stale : Find-stale
-unfolding findCheck searchCheck
+unfolding findCheck
 find-stale a P q y r y′ p f s =
-    find-order a P q y r y′ f 10 p .1 (on-refuses _ _ 10 p (on-refuses _ _ 10 p (stale-given a P (length (P .row)) p s)))
+    find-order a P q y r y′ f 10 p .1 (on-refuses (searchCheck a P q) (output (length (f .positions)) (length y)) 10 p (stale-search a P q p s))
 
 pub variables-stale : Variables-stale
-unfolding variablesCheck searchCheck
+unfolding variablesCheck
 variables-stale a P q k y r y′ p b s =
-    variables-order a P q k y r y′ b 10 p .1 (on-refuses _ _ 10 p (on-refuses _ _ 10 p (stale-given a P (length (P .row)) p s)))
+    variables-order a P q k y r y′ b 10 p .1
+    (on-refuses (searchCheck a P q) (position (length (P .row)) k then output spanPlaces (length y)) 10 p (stale-search a P q p s))
 
 pub replace-stale : Replace-stale
 unfolding replaceCheck
-replace-stale a P n v k r P′ p o s = replace-order a P n v k r P′ o 10 p .1 (on-refuses _ _ 10 p (stale-given a P n p s))
+replace-stale a P n v k r P′ p o s =
+    replace-order a P n v k r P′ o 10 p .1
+    (on-refuses (given a P n) (replacement (a .arities) v then position n k then grown (size (newTree a P n v k)) (room P)) 10 p (stale-given a P n p s))
 
 pub subtree-stale : Subtree-stale
 unfolding subtreeCheck
-subtree-stale a P k p s = subtree-order a P k 10 p .1 (on-refuses _ _ 10 p (stale-given a P (length (P .row)) p s))
+subtree-stale a P k p s = subtree-order a P k 10 p .1 (on-refuses (given a P (length (P .row))) (position (length (P .row)) k) 10 p (stale-given a P (length (P .row)) p s))
+
+-- what is left of 4 to 6 holds whose row it is
+pub sizes-fine : (whose : Kept → Refusal) (n m : ℕ) → Fits n m → sizes whose n m ≡ Fine
+unfolding sizes sized
+sizes-fine whose n m f = simp (le-ltb n 1 (f .some), le-ltb rowMost n (f .most), le-ltb m n (f .room))
 
 -- the row on record is refused likewise
 stale-record : (a : Alphabet) (O : Programme) (n p : ℕ) → StaleAt a O n p → Refuses (kept RecordRow a O n) 50 p
-unfolding kept sizes symbols
-stale-record a O n p s = ?
+unfolding kept symbols
+stale-record a O n p s =
+    let A : List ℕ = a .arities in
+    let w : List ℕ = front n O .row in
+    let x = both-fine (alphabet a) (sizes Row n (room O) then symbols Row A w) (s .earlier) in
+    let y = both-fine (sizes Row n (room O)) (symbols Row A w) (x .1) in
+    let whole = ap (asKept RecordRow) (row-fine Row (verdict A (allowed Symbols A) 1 0 w) (y .1)) in
+    rw (sizes-fine RecordRow n (room O) (sizes-fits Row n (room O) (y .0)), whole)
+    (table-of-refusals .on-record-stale A w (O .table) 50 p (stale-room a O n p s) .1 (refl, s .first))
 
 pub newer-refused : Newer-refused
 unfolding newerCheck
-newer-refused a P O q r k x h z = newer-order a P O q r h k x .1 (on-refuses _ _ k x z)
+newer-refused a P O q r k x h z = newer-order a P O q r h k x .1 (on-refuses (given a P (length (P .row))) (kept RecordRow a O (length (O .row)) then pattern (a .arities) q) k x z)
 
 pub newer-stale : Newer-stale
 unfolding newerCheck
 newer-stale a P O q r p h = (
   λ s. newer-refused a P O q r 10 p h (stale-given a P (length (P .row)) p s),
-  λ e s. newer-order a P O q r h 50 p .1 (rw e (on-refuses _ _ 50 p (stale-record a O (length (O .row)) p s))),
+  λ e s. newer-order a P O q r h 50 p .1 (rw e (on-refuses (kept RecordRow a O (length (O .row))) (pattern (a .arities) q) 50 p (stale-record a O (length (O .row)) p s))),
 )

@@ -3,6 +3,7 @@
 use Prim.Native.Nat.{ℕ, _+_, _-_, _<_, _≤_}
 use mathlib.Core.Path.{_≡_, refl, sym, ap, ap₂, _∙_, subst, subst₂}
 use mathlib.Core.List.{List, [], _∷_, List·Memᴰ}
+use mathlib.Core.Bool.{Bool, true, false}
 use mathlib.Core.Logic.{_↔_, _⊎_, inl, inr, ⊎-elim}
 use native.Mathlib.Omega.{arith}
 use lib.ListN.{length, getD, take, drop, length-drop}
@@ -25,6 +26,7 @@ use Rattle.rows.proofs.Buffers.{written-front, written-behind}
 use Rattle.rows.proofs.Entry.{length-table}
 use Rattle.rows.proofs.Passing.{clash, row-fine, pattern-fine}
 use Rattle.rows.proofs.Scan.{sized-whole}
+use Rattle.rows.specs.Promises.{Entry}
 use Rattle.rows.proofs.Promises.{reads-rows, table-of-row, entry-of-table}
 use Rattle.refusal_numbers.specs.Numbers.{number, place}
 use Rattle.patterns.specs.Answers.{MatchesAt, facing, spans, Has, Spanned}
@@ -113,8 +115,8 @@ build-writes a P r P′ b e x =
       table-is = front ∙ table-of-row A (allowed Symbols A) w x;
       entry-is =
           λ p h. subst (λ (e : ℕ). Entry A (symbol A) w (x .tree) p e)
-              (ap (λ (l : List ℕ). getD l p 0) (sym front) ∙ getD-take (length w) (P′ .table) p 0 h)
-              (entry-of-table A (symbol A) w x p h);
+          (ap (λ (l : List ℕ). getD l p 0) (sym front) ∙ getD-take (length w) (P′ .table) p 0 h)
+          (entry-of-table A (symbol A) w x p h);
       later =
           ap (drop (length w)) table-now
           ∙ ap (λ (n : ℕ). drop n (written (P .table) 0 (table A w))) (sym long)
@@ -140,12 +142,12 @@ module _ (a : Alphabet) (P : Programme) (q : List ℕ) (c : Checked a P q) (p : 
   there : (i k : ℕ) → Has q i k → Spanned a (P .row) q p i (getD y′ (i + i) 0) (getD y′ (i + i + 1) 0)
   there i k h =
       let few = variable-small (getD q k 0) i (h .1) in
-      subst₂ (Spanned a (P .row) q p i) (sym (cell (i + i) (omega arith))) (sym (cell (i + i + 1) (omega arith))) (span-present a P q c p inside m i k h)
+      subst₂ (Spanned a (P .row) q p i) (sym (cell (i + i) (omega arith))) (sym (cell (i + i + 1) (omega arith))) (span-present a P q c p i k inside m h)
 
   first-there : (i k : ℕ) → Has q i k → ((j : ℕ) → j < k → Has q i j → ⊥) → getD y′ (i + i) 0 ≡ getD (facing (a .arities) (P .row) q p) k 0
   first-there i k h none =
       let few = variable-small (getD q k 0) i (h .1) in
-      cell (i + i) (omega arith) ∙ span-first a P q c p inside m i k h none
+      cell (i + i) (omega arith) ∙ span-first a P q c p i k inside m h none
 
   none-there : (i : ℕ) → i < variables → ((k : ℕ) → Has q i k → ⊥) → (getD y′ (i + i) 0 ≡ 0) × (getD y′ (i + i + 1) 0 ≡ 0)
   none-there i few none =
@@ -259,7 +261,7 @@ newer-part a P O q x r p e h k = (
 pub newer-empty : Newer-empty
 newer-empty a P O q x r h k = (λ none. to r k none, λ c. from r k c)
   where
-    abbrev Empty : Newest → Type 0
+    Empty : Newest → Type 0
     Empty r = (newestSaid r ≡ gives (pos 0 ∷ [])) ⊎ ((k : ℕ) × (y : ℕ) × (newestSaid r ≡ refused k y))
 
     to : (r : Newest) → NewestSays a P O q r → x ≡ [] → Empty r

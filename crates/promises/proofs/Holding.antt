@@ -170,10 +170,10 @@ module _ (a : Alphabet) (P : Programme) (n : ℕ) (v : List ℕ) (p : ℕ) (P′
     abbrev A : List ℕ
     A = a .arities
 
-    row-now : P′ .row ≡ holding P n F .row
+    pub row-now : P′ .row ≡ holding P n F .row
     row-now = ap (λ (x : Programme). x .row) (w .lists)
 
-    table-now : P′ .table ≡ holding P n F .table
+    pub table-now : P′ .table ≡ holding P n F .table
     table-now = ap (λ (x : Programme). x .table) (w .lists)
 
     -- the lists keep their length, and the old row fits them
