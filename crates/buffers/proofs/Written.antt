@@ -10,7 +10,7 @@ use native.Mathlib.Omega.{arith}
 use lib.ListN.{length, take, drop, set, getD, length-append, length-take, length-drop, take-append-drop, List·getD-append, drop-of-length-le}
 use lib.Seq.{take-all, take-take, drop-drop, take-at, drop-at, length-take-le, take-suc, drop-cons, set-at, set-getD, getD-append-add, take-append-le, getD-take, getD-drop}
 use Rattle.rows.specs.Buffers.{written}
-use Rattle.rows.proofs.Buffers.{length-written, written-nil, written-snoc}
+use Rattle.rows.proofs.Buffers.{written-nil, written-snoc}
 
 -- a part written at its own place
 pub written-still : (b : List ℕ) (at len : ℕ) → at + len ≤ length b → written b at (take len (drop at b)) ≡ b

@@ -3,7 +3,6 @@
 use Prim.Native.Nat.{ℕ, _<_, _≤_}
 use mathlib.Core.Path.{_≡_, ap₂}
 use mathlib.Core.List.{List}
-use native.Mathlib.Omega.{arith}
 use lib.ListN.{length}
 use Rattle.rows.specs.Limits.{alphabetMost, rowMost, patternMost, spanPlaces}
 use Rattle.rows.specs.Programme.{Alphabet, Programme}

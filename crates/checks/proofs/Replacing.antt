@@ -17,12 +17,11 @@ use Rattle.rows.specs.declared.Refusal.the-variants.{Row}
 use Rattle.rows.specs.declared.Check.{Check}
 use Rattle.rows.specs.declared.Check.the-variants.{Fine}
 use Rattle.rows.proofs.Scan.{sized-fits}
-use Rattle.rows.proofs.Passing.{both-fine, position-fine, replacement-whole}
+use Rattle.rows.proofs.Passing.{both-fine, position-fine, replacement-whole, below}
 use Rattle.tables.proofs.Given.{Held, kept-right, right-bounds}
 use Rattle.patterns.proofs.Matching.{both-whole}
 use Rattle.edits.specs.Put.{changed}
 use Rattle.edits.specs.Replace.{Replaceable}
-use Rattle.edits.proofs.Put.{below}
 use Rattle.edits.proofs.Place.{position-past, position-in, grown-fits, grown-fine}
 use Rattle.edits.proofs.Replace.{new-length}
 use Rattle.checks.specs.Checks.{replaceCheck}

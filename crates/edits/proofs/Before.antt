@@ -12,7 +12,7 @@ use Rattle.buffers.proofs.Written.{turn, unturned, getD-map}
 use Rattle.edits.specs.Moved.{moved}
 use Rattle.edits.specs.Given.{Movable}
 use Rattle.edits.proofs.Ends.{moved-past, moved-upto}
-use Rattle.edits.proofs.Put.{below}
+use Rattle.rows.proofs.Passing.{below}
 
 module _ (t : List ℕ) (n p e to : ℕ) (m : Movable t n p e to) where
   -- the entries before p as they are to be

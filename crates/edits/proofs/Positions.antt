@@ -6,7 +6,8 @@ use mathlib.Core.Path.{_≡_, _∙_}
 use native.Mathlib.Omega.{arith}
 use Rattle.rows.specs.Tree.{Forest, Forest.grow, Tree, single, size, subtreeAt}
 use Rattle.edits.specs.Put.{put, extent}
-use Rattle.edits.proofs.Put.{put-ind, put-in, put-right, put-root, put-size, put-below, at-root, at-in, at-right, at-fits, extent-in, extent-right, extent-root, size-single, below}
+use Rattle.edits.proofs.Put.{put-ind, put-in, put-right, put-root, put-size, put-below, at-root, at-in, at-right, at-fits, extent-in, extent-right, extent-root, size-single}
+use Rattle.rows.proofs.Passing.{below}
 
 -- ---- one position, again
 

@@ -10,15 +10,12 @@ use native.Mathlib.Omega.{arith}
 use lib.ListN.{length, take, drop, getD, List·getD-append}
 use lib.Seq.{take-append-le, drop-append-le, take-append-add, drop-append-add, drop-at, getD-append-add}
 use borrow.Author.Tests.{lt-ltb, le-ltb}
+use Rattle.rows.proofs.Passing.{below}
 use Rattle.rows.specs.Tree.{Forest, Forest.none, Forest.grow, Tree, single, size, count, prefix, subtrees, subtreeAt, Ranked}
 use Rattle.rows.proofs.Tree.{length-prefix}
 use Rattle.rows.proofs.Subtrees.{length-subtrees}
 use Rattle.buffers.specs.Renewed.{spliced}
 use Rattle.edits.specs.Put.{put, extent}
-
--- by cases: below, or not
-pub below : (a b : ℕ) {G : Type 0} → (a < b → G) → (b ≤ a → G) → G
-below a b y n = elim (decLt a b) [ yes h ↦ y h | no h ↦ n (omega arith) ]
 
 -- `put` and `subtreeAt` at the root, and at a position past it: among the children, or to the right
 pub put-root : (s : ℕ) (cs f : Forest) (u : Tree) → put (grow s cs f) zero u ≡ grow (u .symbol) (u .children) f

@@ -8,7 +8,7 @@ use lib.IntN.{pos, negsuc, _-ℤ_}
 use mir.Syntax.{Width}
 use mir.Val.{SFits, hbits}
 use borrow.Author.Tests.{lt-ltb, le-ltb}
-use Rattle.edits.proofs.Put.{below}
+use Rattle.rows.proofs.Passing.{below}
 
 pub minus-ge : (a b : ℕ) → b ≤ a → pos a -ℤ pos b ≡ pos (a - b)
 minus-ge a zero h = ap pos (omega arith)

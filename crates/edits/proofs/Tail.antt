@@ -15,7 +15,7 @@ use Rattle.buffers.proofs.Renewed.{drop-take}
 use Rattle.edits.specs.Moved.{moved, splicedEnds}
 use Rattle.edits.specs.Given.{Movable}
 use Rattle.edits.proofs.Ends.{moved-past, moved-upto}
-use Rattle.edits.proofs.Put.{below}
+use Rattle.rows.proofs.Passing.{below}
 use Rattle.edits.proofs.Before.{before, before-at, length-before}
 
 module _ (t : List ℕ) (n p e to : ℕ) (m : Movable t n p e to) where

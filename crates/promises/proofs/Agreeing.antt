@@ -1,18 +1,18 @@
 -- The checks that find and the plain matcher share: with the table that build leaves they refuse the same up to 15.
 -- Assumes nothing.
-use Prim.Native.Nat.{ℕ, _+_, _≤_, min}
+use Prim.Native.Nat.{ℕ, _+_, _≤_}
 use mathlib.Core.Path.{_≡_, refl, sym, ap, ap₂, _∙_}
 use mathlib.Core.List.{List}
 use native.Mathlib.Omega.{arith}
 use borrow.Author.Tests.{le-ltb}
-use lib.ListN.{length, take, drop}
+use lib.ListN.{length, drop}
 use lib.Seq.{take-all}
 use Rattle.rows.specs.Limits.{rowMost}
 use Rattle.rows.specs.Programme.{Alphabet, Programme, room}
 use Rattle.rows.specs.Parse.{table}
 use Rattle.rows.specs.Row.{sized, verdict, allowed, orElse, reading}
 use Rattle.rows.specs.Buffers.{written, after}
-use Rattle.rows.specs.Refusals.{_then_, refuseIf, asKept, alphabet, sizes, symbols, fresh, kept, given, pattern, position}
+use Rattle.rows.specs.Refusals.{_then_, asKept, alphabet, sizes, symbols, fresh, kept, given, pattern, position}
 use Rattle.rows.specs.declared.Leaves.the-variants.{Symbols}
 use Rattle.rows.specs.declared.Verdict.{Verdict}
 use Rattle.rows.specs.declared.Verdict.the-variants.{Whole, Faulty}

@@ -2,13 +2,10 @@
 -- Assumes nothing.
 use Prim.Native.Nat.{ℕ, _-_, _<_, _≤_}
 use mathlib.Core.Path.{_≡_, refl, sym, ap, ap₂, _∙_, subst}
-use mathlib.Core.List.{List, []}
-use native.Mathlib.Omega.{arith}
+use mathlib.Core.List.{List}
 use lib.ListN.{length, take, drop}
 use Rattle.rows.specs.Limits.{spanPlaces}
 use Rattle.rows.specs.Programme.{Alphabet, Programme}
-use Rattle.rows.specs.Parse.{table}
-use Rattle.rows.specs.Row.{pick}
 use Rattle.rows.specs.Buffers.{written, after}
 use Rattle.rows.specs.declared.Refusal.{Refusal}
 use Rattle.rows.specs.declared.Check.{Check}
@@ -16,12 +13,12 @@ use Rattle.rows.specs.declared.Check.the-variants.{Fine, Refused}
 use Rattle.rows.proofs.Buffers.{written-front, written-behind}
 use Rattle.rows.proofs.Passing.{clash}
 use Rattle.patterns.specs.Answers.{MatchesAt, Listed, spans}
-use Rattle.patterns.specs.Walk.{comesThrough, listOf}
+use Rattle.patterns.specs.Walk.{listOf}
 use Rattle.patterns.proofs.Promises.{walk-lists, spans-long}
-use Rattle.checks.specs.Checks.{findCheck, variablesCheck, plainCheck}
+use Rattle.checks.specs.Checks.{findCheck, plainCheck}
 use Rattle.checks.proofs.Passing.{search-checked}
 use Rattle.sparrowhem.specs.Build.{built, Built}
-use Rattle.sparrowhem.specs.Search.{found, Finds, bound, Binds}
+use Rattle.sparrowhem.specs.Search.{found, Finds, Binds}
 use Rattle.sparrowhem.specs.Edit.{Replacement}
 use Rattle.sparrowhem.specs.Parts.{LiesAt, NewestSays, newestPart, NewestLies, NewerPart, NewerLies}
 use Rattle.sparrowhem.specs.Plain.{PlainSays}

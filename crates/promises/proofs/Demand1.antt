@@ -2,7 +2,7 @@
 -- Assumes nothing.
 use Prim.Native.Nat.{ℕ, zero, suc, _+_, _≤_, _<_, _*_}
 use mathlib.Core.Path.{_≡_, refl, sym, ap, ap₂, _∙_, subst}
-use mathlib.Core.List.{List, []}
+use mathlib.Core.List.{List}
 use mathlib.Core.Bool.{Bool, true, false}
 use mathlib.Core.Logic.{_↔_, _⊎_, inl, inr, ⊎-elim}
 use native.Mathlib.Omega.{arith}
@@ -17,24 +17,22 @@ use Rattle.rows.specs.Row.{pick, sized, verdict, allowed}
 use Rattle.rows.specs.declared.Leaves.the-variants.{Symbols}
 use Rattle.rows.specs.declared.Kept.{Kept}
 use Rattle.rows.specs.Buffers.{written, after, One}
-use Rattle.rows.specs.Refusals.{_then_, asKept, alphabet, sizes, symbols, fresh, kept, given, pattern, replacement, position, grown, output}
+use Rattle.rows.specs.Refusals.{_then_, asKept, alphabet, sizes, symbols, kept, given, pattern, replacement, position, grown, output}
 use Rattle.rows.specs.declared.Refusal.{Refusal}
 use Rattle.rows.specs.declared.Refusal.the-variants.{Row, OnRecord as RecordRow, OutputShort}
 use Rattle.rows.specs.declared.Check.{Check}
 use Rattle.rows.specs.declared.Check.the-variants.{Fine, Refused}
 use Rattle.rows.proofs.Entry.{length-table}
-use Rattle.rows.proofs.Passing.{Fits, both-fine, row-fine, sizes-fits, position-fine}
-use Rattle.refusal_numbers.specs.Numbers.{number, place}
+use Rattle.rows.proofs.Passing.{Fits, both-fine, row-fine, sizes-fits, position-fine, below}
 use Rattle.refusal_numbers.specs.Table.{Refuses}
 use Rattle.refusal_numbers.proofs.Table.{table as table-of-refusals}
 use Rattle.patterns.specs.Searchable.{Checked}
 use Rattle.patterns.specs.Walk.{comesThrough, listOf}
 use Rattle.patterns.specs.Answers.{MatchesAt, spans}
 use Rattle.patterns.proofs.Promises.{walk-right, walk-lists}
-use Rattle.edits.proofs.Put.{below}
 use Rattle.checks.specs.Checks.{buildCheck, searchCheck, findCheck, variablesCheck, replaceCheck, subtreeCheck, newerCheck, plainCheck}
 use Rattle.checks.proofs.Passing.{search-checked, variables-checked, newer-checked}
-use Rattle.sparrowhem.specs.Said.{Said, Said.refused, refusal, checkSaid, foundSaid, boundSaid, replacedSaid, placedSaid, newestSaid, fitsSaid}
+use Rattle.sparrowhem.specs.Said.{Said, Said.refused, refusal, checkSaid, foundSaid, boundSaid, replacedSaid, newestSaid, fitsSaid}
 use Rattle.sparrowhem.specs.Build.{built, Built}
 use Rattle.sparrowhem.specs.Search.{found, Finds, bound, Binds}
 use Rattle.sparrowhem.specs.Edit.{newTree, holding, answered, Replacement}
@@ -44,7 +42,6 @@ use Rattle.sparrowhem.specs.declared.search.Found.{Found}
 use Rattle.sparrowhem.specs.declared.search.Found.the-variants.{Matches, Refused as FindRefused}
 use Rattle.sparrowhem.specs.declared.search.Bound.{Bound}
 use Rattle.sparrowhem.specs.declared.edit.Replaced.{Replaced}
-use Rattle.sparrowhem.specs.declared.parts.Placed.{Placed}
 use Rattle.sparrowhem.specs.declared.parts.Placed.the-variants.{Span, Refused as Unplaced}
 use Rattle.sparrowhem.specs.declared.parts.Newest.{Newest}
 use Rattle.sparrowhem.specs.declared.parts.Newest.the-variants.{Corrected, OnRecord, Nowhere, Refused as NewestRefused}
@@ -63,7 +60,7 @@ use Rattle.promises.proofs.Holding.{stayed}
 pub pair : {X Y : Type 0} (x y : X × Y) → (x .0 ≡ y .0) × (x .1 ≡ y .1) → x ≡ y
 pair {X} {Y} x y e = ap₂ {C = X × Y} (λ (a : X) (b : Y). (a, b)) (e .0) (e .1)
 
-pub build-one : Build-one
+unfoldable pub build-one : Build-one
 build-one a P =
     let c : Check = buildCheck a P in
     let some : Check × Programme = (c, after c (built a P) P) in
@@ -74,7 +71,7 @@ build-one a P =
       only = λ x h. pair x some (build-settled a P (x .0) (some .0) (x .1) (some .1) h here);
     }
 
-pub find-one : Find-one
+unfoldable pub find-one : Find-one
 find-one a P q y =
     let ps : List ℕ = listOf a (P .row) q in
     let c : Check = findCheck a P q (length ps) (length y) in
@@ -87,7 +84,7 @@ find-one a P q y =
       only = λ x h. pair x some (find-settled a P q y (x .0) (some .0) (x .1) (some .1) h here);
     }
 
-pub variables-one : Variables-one
+unfoldable pub variables-one : Variables-one
 variables-one a P q p y =
     let b : Bool = comesThrough (P .row) (table (a .arities) (P .row)) q p in
     let c : Check = variablesCheck a P q p (length y) in
@@ -105,7 +102,7 @@ variables-one a P q p y =
       only = λ x h. pair x some (variables-settled a P q p y (x .0) (some .0) (x .1) (some .1) h here);
     }
 
-pub replace-one : Replace-one
+unfoldable pub replace-one : Replace-one
 replace-one a P n v p =
     let c : Check = replaceCheck a P n v p in
     let f : Forest = newTree a P n v p in

@@ -2,26 +2,26 @@
 -- Assumes nothing.
 use Prim.Native.Nat.{ℕ, _+_, _-_, _<_, _≤_}
 use mathlib.Core.Path.{_≡_, refl, sym, ap, ap₂, _∙_, subst, subst₂}
-use mathlib.Core.List.{List, [], _∷_, List·Memᴰ}
+use mathlib.Core.List.{List, [], _∷_}
 use mathlib.Core.Bool.{Bool, true, false}
 use mathlib.Core.Logic.{_↔_, _⊎_, inl, inr, ⊎-elim}
 use native.Mathlib.Omega.{arith}
 use lib.ListN.{length, getD, take, drop, length-drop}
 use lib.Seq.{length-take-le, getD-take}
 use lib.IntN.{pos}
-use Rattle.rows.specs.Limits.{rowMost, patternMost, spanPlaces, variables}
+use Rattle.rows.specs.Limits.{patternMost, spanPlaces, variables}
 use Rattle.rows.specs.Programme.{Alphabet, Programme, room}
 use Rattle.rows.specs.Tree.{IsRow}
 use Rattle.rows.specs.Parse.{table}
 use Rattle.rows.specs.Row.{symbol, verdict, allowed, reading}
-use Rattle.rows.specs.Buffers.{written, after}
-use Rattle.rows.specs.Refusals.{_then_, asKept, asPattern, alphabet, sizes, symbols, pattern, replacement}
+use Rattle.rows.specs.Buffers.{written}
+use Rattle.rows.specs.Refusals.{_then_, asKept, asPattern, sizes, symbols, pattern}
 use Rattle.rows.specs.declared.Leaves.{Leaves}
 use Rattle.rows.specs.declared.Leaves.the-variants.{Symbols, Blanks}
 use Rattle.rows.specs.declared.Refusal.{Refusal}
-use Rattle.rows.specs.declared.Refusal.the-variants.{Row, OutputShort}
+use Rattle.rows.specs.declared.Refusal.the-variants.{Row}
 use Rattle.rows.specs.declared.Check.{Check}
-use Rattle.rows.specs.declared.Check.the-variants.{Fine, Refused}
+use Rattle.rows.specs.declared.Check.the-variants.{Fine}
 use Rattle.rows.proofs.Buffers.{written-front, written-behind}
 use Rattle.rows.proofs.Entry.{length-table}
 use Rattle.rows.proofs.Passing.{clash, row-fine, pattern-fine}
@@ -33,29 +33,26 @@ use Rattle.patterns.specs.Answers.{MatchesAt, facing, spans, Has, Spanned}
 use Rattle.patterns.specs.Searchable.{Checked}
 use Rattle.patterns.proofs.Promises.{span-present, span-first, span-absent}
 use Rattle.patterns.proofs.Steps.{variable-small}
-use Rattle.checks.specs.Checks.{buildCheck, variablesCheck, plainCheck}
+use Rattle.checks.specs.Checks.{buildCheck, variablesCheck}
 use Rattle.checks.proofs.Passing.{variables-checked}
 use Rattle.checks.proofs.Replacing.{replacement-fine, replacement-accepted}
-use Rattle.sparrowhem.specs.Said.{Said, Said.refused, Said.gives, refusal, checkSaid, foundSaid, boundSaid, placedSaid, newestSaid, fitsSaid}
+use Rattle.sparrowhem.specs.Said.{Said.refused, Said.gives, checkSaid, foundSaid, boundSaid, placedSaid, newestSaid, fitsSaid}
 use Rattle.sparrowhem.specs.Build.{Built}
 use Rattle.sparrowhem.specs.Search.{Finds, bound, Binds}
-use Rattle.sparrowhem.specs.Parts.{subtreePart, subtreeAnswer, NewestSays, newestPart, NewerPart}
-use Rattle.sparrowhem.specs.Plain.{PlainSays}
+use Rattle.sparrowhem.specs.Parts.{subtreePart, subtreeAnswer, NewestSays}
 use Rattle.sparrowhem.specs.declared.search.Found.{Found}
-use Rattle.sparrowhem.specs.declared.search.Found.the-variants.{Matches, Refused as FindRefused}
+use Rattle.sparrowhem.specs.declared.search.Found.the-variants.{Matches}
 use Rattle.sparrowhem.specs.declared.search.Bound.{Bound}
 use Rattle.sparrowhem.specs.declared.search.Bound.the-variants.{Matched, Unmatched, Refused as BindRefused}
 use Rattle.sparrowhem.specs.declared.parts.Placed.{Placed}
 use Rattle.sparrowhem.specs.declared.parts.Placed.the-variants.{Span, Refused as Unplaced}
 use Rattle.sparrowhem.specs.declared.parts.Newest.{Newest}
 use Rattle.sparrowhem.specs.declared.parts.Newest.the-variants.{Corrected, OnRecord, Nowhere, Refused as NewestRefused}
-use Rattle.sparrowhem.specs.declared.matcher.Fits.{Fits}
 use Rattle.sparrowhem.specs.declared.matcher.Fits.the-variants.{Yes, No, Refused as PlainRefused}
 use Rattle.sparrowhem.proofs.Handing.{answer-span, answer-none, span-within, span-part}
-use Rattle.sparrowhem.proofs.Preferring.{one-answer}
 use Rattle.sparrowhem.proofs.Searching.{finds-matches}
 use Rattle.promises.specs.Demands.{Rows-accepted, Patterns-accepted, Replacements-accepted, Build-accepts, Build-writes, Find-lists, Variables-exactly, Plain-exactly, Plain-finds, Plain-refuses, Subtree-part, Subtree-empty, Newer-part, Newer-empty}
-use Rattle.promises.proofs.Said.{apart, refusal-said, fine-said, matches-said, matched-said, unmatched-said, span-said, corrected-said, on-record-said, nowhere-said, yes-said, no-said, found-refusal, placed-refusal, newest-refusal, fits-refusal}
+use Rattle.promises.proofs.Said.{refusal-said, fine-said, matches-said, matched-said, unmatched-said, span-said, corrected-said, on-record-said, nowhere-said, yes-said, no-said, found-refusal, placed-refusal, newest-refusal, fits-refusal}
 use Rattle.promises.proofs.Calls.{build-fine, find-all, variables-matched, variables-unmatched, variables-kept, newer-answers, newer-lies}
 use Rattle.promises.proofs.Plain.{agree-yes, agree-no}
 

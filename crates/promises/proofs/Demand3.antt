@@ -1,6 +1,6 @@
 -- Demand 3 of specs/Demands, each sentence with its proof.
 -- Assumes nothing.
-use Prim.Native.Nat.{ℕ, _+_, _-_, _≤_, _<_}
+use Prim.Native.Nat.{ℕ, _+_, _≤_, _<_}
 use mathlib.Core.Path.{_≡_, refl, sym, ap, ap₂, _∙_, subst}
 use mathlib.Core.List.{List, [], _∷_, map}
 use mathlib.Core.Bool.{Bool, true, false}
@@ -11,33 +11,31 @@ use lib.Dec.{ltb}
 use lib.ListN.{length, getD, take}
 use lib.Seq.{length-take-le, take-all, take-take}
 use lib.IntN.{ℤ, pos}
-use Rattle.rows.specs.Limits.{rowMost, spanPlaces}
+use Rattle.rows.specs.Limits.{spanPlaces}
 use Rattle.rows.specs.Programme.{Alphabet, Programme, programme, room, front, cut}
-use Rattle.rows.specs.Tree.{Forest, IsRow, single, size, prefix, ends, subtreeAt}
+use Rattle.rows.specs.Tree.{Forest, size, prefix, ends, subtreeAt}
 use Rattle.rows.specs.Parse.{parse, treeOf}
 use Rattle.rows.specs.Row.{pick, symbol, sized}
-use Rattle.rows.specs.Refusals.{_then_, refuseIf, asKept, alphabet, sizes, symbols, fresh, kept, given, pattern, position, output}
-use Rattle.rows.specs.declared.Kept.the-variants.{Short}
+use Rattle.rows.specs.Refusals.{_then_, alphabet, sizes, symbols, fresh, kept, given, pattern, position, output}
 use Rattle.rows.specs.declared.Refusal.{Refusal}
 use Rattle.rows.specs.declared.Refusal.the-variants.{Row}
 use Rattle.rows.specs.declared.Check.{Check}
 use Rattle.rows.specs.declared.Check.the-variants.{Fine, Refused}
 use Rattle.rows.proofs.Tree.{length-prefix}
 use Rattle.rows.proofs.Parse.{size-parse}
-use Rattle.rows.proofs.Passing.{clash, both-fine, sizes-fits}
+use Rattle.rows.proofs.Passing.{both-fine, sizes-fits, below}
 use Rattle.rows.proofs.Promises.{tree-of-row}
 use Rattle.tables.proofs.Given.{right-entry, given-right}
 use Rattle.patterns.specs.Answers.{MatchesAt, spans}
 use Rattle.edits.specs.Put.{extent}
-use Rattle.edits.proofs.Put.{below, put-below, size-single}
+use Rattle.edits.proofs.Put.{put-below, size-single}
 use Rattle.checks.specs.Checks.{buildCheck, searchCheck, variablesCheck, plainCheck}
 use Rattle.checks.proofs.Replacing.{given-held, replace-held, replace-able}
-use Rattle.sparrowhem.specs.Said.{Said.gives, checkSaid, foundSaid, boundSaid, replacedSaid, fitsSaid}
+use Rattle.sparrowhem.specs.Said.{Said.gives, checkSaid, boundSaid, replacedSaid, fitsSaid}
 use Rattle.sparrowhem.specs.Build.{Built}
-use Rattle.sparrowhem.specs.Search.{Finds, bound, Binds}
+use Rattle.sparrowhem.specs.Search.{bound, Binds}
 use Rattle.sparrowhem.specs.Edit.{Replacement}
 use Rattle.sparrowhem.specs.Plain.{PlainSays}
-use Rattle.sparrowhem.specs.declared.search.Found.{Found}
 use Rattle.sparrowhem.specs.declared.search.Bound.{Bound}
 use Rattle.sparrowhem.specs.declared.search.Bound.the-variants.{Matched, Unmatched, Refused as BindRefused}
 use Rattle.sparrowhem.specs.declared.edit.Replaced.{Replaced}

@@ -27,10 +27,10 @@ use Rattle.rows.proofs.Accept.{verdict-forest, count-parse, ranked-parse, row-o
 use Rattle.rows.proofs.Buffers.{written-front, length-written}
 use Rattle.rows.proofs.Scan.{verdict-whole}
 use Rattle.rows.proofs.Entry.{length-table, same-end}
-use Rattle.rows.proofs.Passing.{both-fine, sizes-fits}
+use Rattle.rows.proofs.Passing.{both-fine, sizes-fits, below}
 use Rattle.tables.proofs.Differ.{differs-same}
 use Rattle.buffers.proofs.Renewed.{take-renewed, length-renewed}
-use Rattle.edits.proofs.Put.{put-count, put-ranked, put-below, below}
+use Rattle.edits.proofs.Put.{put-count, put-ranked, put-below}
 use Rattle.checks.specs.Checks.{buildCheck, replaceCheck}
 use Rattle.checks.proofs.Building.{build-fillable}
 use Rattle.checks.proofs.Replacing.{given-held, replace-held, replace-able}

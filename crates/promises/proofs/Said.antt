@@ -12,7 +12,7 @@ use Rattle.rows.specs.declared.Check.{Check}
 use Rattle.rows.specs.declared.Check.the-variants.{Fine, Refused}
 use Rattle.refusal_numbers.specs.Numbers.{number, place}
 use Rattle.refusal_numbers.specs.Table.{Refuses}
-use Rattle.sparrowhem.specs.Said.{Said, Said.refused, Said.gives, refusal, checkSaid, foundSaid, boundSaid, replacedSaid, placedSaid, newestSaid, fitsSaid}
+use Rattle.sparrowhem.specs.Said.{Said.refused, Said.gives, refusal, checkSaid, foundSaid, boundSaid, replacedSaid, placedSaid, newestSaid, fitsSaid}
 use Rattle.sparrowhem.specs.Search.{found, bound}
 use Rattle.sparrowhem.specs.Edit.{answered}
 use Rattle.sparrowhem.specs.Parts.{placed}

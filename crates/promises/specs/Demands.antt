@@ -21,9 +21,9 @@ use Rattle.rows.specs.Tree.{Forest, IsRow, single, size, prefix, ends}
 use Rattle.rows.specs.Row.{pick, symbol, allowed}
 use Rattle.rows.specs.Buffers.{One}
 use Rattle.rows.specs.Promises.{One-tree, Tree-of-row, Entry}
-use Rattle.rows.specs.Refusals.{_then_, alphabet, sizes, symbols, kept, given, pattern, replacement}
+use Rattle.rows.specs.Refusals.{_then_, alphabet, sizes, symbols, given, pattern, replacement}
 use Rattle.rows.specs.declared.Leaves.the-variants.{Blanks}
-use Rattle.rows.specs.declared.Refusal.the-variants.{Row, OnRecord}
+use Rattle.rows.specs.declared.Refusal.the-variants.{Row}
 use Rattle.rows.specs.declared.Check.{Check}
 use Rattle.rows.specs.declared.Check.the-variants.{Fine}
 use Rattle.refusal_numbers.specs.Table.{Refuses, FirstStale, Table}

@@ -9,7 +9,7 @@ use borrow.Author.Tests.{ltb-false, leb-false}
 use lib.Dec.{ltb, leb}
 use Rattle.rows.specs.Limits.{alphabetMost, rowMost}
 use Rattle.rows.specs.Row.{sized}
-use Rattle.rows.specs.Refusals.{_then_, refuseIf, alphabetSize, asKept, asPattern, asReplacement, keeps, sizes, position, output}
+use Rattle.rows.specs.Refusals.{_then_, refuseIf, alphabetSize, asKept, asPattern, asReplacement, sizes, position, output}
 use Rattle.rows.specs.declared.Verdict.{Verdict}
 use Rattle.rows.specs.declared.Verdict.the-variants.{Whole, Faulty}
 use Rattle.rows.specs.declared.Arities.the-variants.{Count}

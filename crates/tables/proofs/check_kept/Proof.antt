@@ -1,5 +1,6 @@
 -- `tables::check_kept` meets its contract. Sizes that are accepted are what the pass over row and table asks for.
 -- Assumes nothing.
+-- what the check of the sizes says of the two lists, and what it leaves where it is sound
 use Prim.Native.Nat.{ℕ}
 use mathlib.Core.Path.{_≡_, sym, ap, _∙_}
 use native.Mathlib.Omega.{arith}
@@ -17,7 +18,6 @@ use borrow.Author.Needs.{needs}
 use Rattle.tables.proofs.check_kept.Statement.{statement}
 use Rattle.tables.proofs.check_kept.Tie as tie
 
--- what the check of the sizes says of the two lists, and what it leaves where it is sound
 module _ (c : tie.After-check-sizes) where
   abbrev n : ℕ
   n = c .before .before .before .before .before .args .n

@@ -1,5 +1,6 @@
 -- `tables::compare_at` meets its contract: the symbol and its entry are a turn of the pass.
 -- Assumes nothing.
+-- no more trees stand behind p than symbols
 use Prim.Native.Nat.{ℕ, _≤_, _+_, _-_}
 use native.Mathlib.Omega.{arith}
 use mathlib.Core.Path.{refl, sym, subst}
@@ -11,7 +12,6 @@ use borrow.Author.Needs.{needs}
 use Rattle.tables.proofs.compare_at.Statement.{statement}
 use Rattle.tables.proofs.compare_at.Tie as tie
 
--- no more trees stand behind p than symbols
 few : (s : tie.Start) → s .args .trees + (s .args .p + 1) ≤ length (s .args .row .now)
 few s = omega (arith, s .pre .1 .counted, few-behind (s .args .arities .now) (s .args .row .now) (s .args .p + 1) (omega (arith, s .pre .0 .2)))
 

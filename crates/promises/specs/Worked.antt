@@ -1,0 +1,108 @@
+-- The worked programmes of docs/SCOPE.md that are proved: one table of calls, each with what it says and leaves, under one
+-- statement. Each line is an instance of the call's own contract: some answer that the contract admits, with these lists
+-- afterwards, says so; that there is no other is `Build-one`, `Find-one` and so on in Demands.
+use Prim.Native.Nat.{ℕ}
+use mathlib.Core.Path.{_≡_}
+use mathlib.Core.List.{List, [], _∷_, _++_}
+use lib.ListN.{replicate}
+use lib.IntN.{ℤ, pos, negsuc}
+use Rattle.rows.specs.Programme.{Alphabet, Programme, alphabetOf, programme}
+use Rattle.rows.specs.declared.Check.{Check}
+use Rattle.sparrowhem.specs.Said.{Said, Said.refused, Said.gives, checkSaid, foundSaid, boundSaid, replacedSaid}
+use Rattle.sparrowhem.specs.Build.{Built}
+use Rattle.sparrowhem.specs.Search.{Finds, Binds}
+use Rattle.sparrowhem.specs.Edit.{Replacement}
+use Rattle.sparrowhem.specs.declared.search.Found.{Found}
+use Rattle.sparrowhem.specs.declared.search.Bound.{Bound}
+use Rattle.sparrowhem.specs.declared.edit.Replaced.{Replaced}
+
+-- what a call says, and what the lists hold afterwards
+abbrev pub BuildSays : Alphabet → Programme → Said → Programme → Type 0
+BuildSays a P said P′ = (r : Check) × Built a P r P′ × (checkSaid r ≡ said)
+
+abbrev pub FindSays : Alphabet → Programme → List ℕ → List ℕ → Said → List ℕ → Type 0
+FindSays a P q y said y′ = (r : Found) × Finds a P q y r y′ × (foundSaid r ≡ said)
+
+abbrev pub VariablesSay : Alphabet → Programme → List ℕ → ℕ → List ℕ → Said → List ℕ → Type 0
+VariablesSay a P q p y said y′ = (r : Bound) × Binds a P q p y r y′ × (boundSaid r ≡ said)
+
+abbrev pub ReplaceSays : Alphabet → Programme → ℕ → List ℕ → ℕ → Said → Programme → Type 0
+ReplaceSays a P n v p said P′ = (r : Replaced) × Replacement a P n v p r P′ × (replacedSaid r ≡ said)
+
+-- alphabet A and row T, T's table, and the same with entry 4 set to 5
+abbrev pub A : Alphabet
+A = alphabetOf (0 ∷ 0 ∷ 1 ∷ 2 ∷ 3 ∷ [])
+
+abbrev pub T : List ℕ
+T = 4 ∷ 3 ∷ 0 ∷ 0 ∷ 2 ∷ 1 ∷ 3 ∷ 0 ∷ 0 ∷ []
+
+abbrev pub ends-of-T : List ℕ
+ends-of-T = 9 ∷ 4 ∷ 3 ∷ 4 ∷ 6 ∷ 6 ∷ 9 ∷ 8 ∷ 9 ∷ []
+
+abbrev pub stale-at-4 : List ℕ
+stale-at-4 = 9 ∷ 4 ∷ 3 ∷ 4 ∷ 5 ∷ 6 ∷ 9 ∷ 8 ∷ 9 ∷ []
+
+abbrev pub T-built : Programme
+T-built = programme T ends-of-T
+
+abbrev pub T-stale : Programme
+T-stale = programme T stale-at-4
+
+-- a place that was not written, of which no call speaks; so many of them
+abbrev pub unset : ℕ
+unset = 60606
+
+abbrev pub places : ℕ → List ℕ
+places n = replicate n unset
+
+-- S and X0, and the spans where X0 alone stands in the pattern
+abbrev pub S : ℕ
+S = 65535
+
+abbrev pub X0 : ℕ
+X0 = 65280
+
+abbrev pub spans-of-X0 : ℕ → ℕ → List ℕ
+spans-of-X0 b e = b ∷ e ∷ replicate 30 0
+
+-- T with 3 0 1 put at 4, and its table
+abbrev pub T-with-3-0-1 : Programme
+T-with-3-0-1 =
+    programme (4 ∷ 3 ∷ 0 ∷ 0 ∷ 3 ∷ 0 ∷ 1 ∷ 3 ∷ 0 ∷ 0 ∷ []) (10 ∷ 4 ∷ 3 ∷ 4 ∷ 7 ∷ 6 ∷ 7 ∷ 10 ∷ 9 ∷ 10 ∷ [])
+
+-- T with 1 put at 1, and its table: places 7 and 8 are freed
+abbrev pub T-with-1 : Programme
+T-with-1 = programme (4 ∷ 1 ∷ 2 ∷ 1 ∷ 3 ∷ 0 ∷ 0 ∷ 65535 ∷ 65535 ∷ []) (7 ∷ 2 ∷ 4 ∷ 4 ∷ 7 ∷ 6 ∷ 7 ∷ 0 ∷ 0 ∷ [])
+
+-- a build of the row w that refuses so, and writes nothing
+abbrev pub Refused-row : List ℕ → ℕ → ℕ → Type 0
+Refused-row w k x = BuildSays A (programme w (places 9)) (refused k x) (programme w (places 9))
+
+pub record Worked : Type 0 where
+  -- 1: the table of T
+  pub the-table : BuildSays A (programme T (places 9)) (gives []) T-built
+  -- 2: 3 X0 X0
+  pub equal-parts : FindSays A T-built (3 ∷ X0 ∷ X0 ∷ []) (places 9) (gives (pos 2 ∷ [])) (1 ∷ 6 ∷ places 7)
+  -- 3: 4 X0 S X0, and its variable
+  pub alike-at-both-ends : FindSays A T-built (4 ∷ X0 ∷ S ∷ X0 ∷ []) (places 9) (gives (pos 1 ∷ [])) (0 ∷ places 8)
+  pub its-variable : VariablesSay A T-built (4 ∷ X0 ∷ S ∷ X0 ∷ []) 0 (places 32) (gives (pos 1 ∷ [])) (spans-of-X0 1 4)
+  -- 4: 4 X0 X0 S
+  pub nowhere : FindSays A T-built (4 ∷ X0 ∷ X0 ∷ S ∷ []) (places 9) (gives (pos 0 ∷ [])) (places 9)
+  -- 5: S
+  pub everywhere : FindSays A T-built (S ∷ []) (places 9) (gives (pos 9 ∷ [])) (0 ∷ 1 ∷ 2 ∷ 3 ∷ 4 ∷ 5 ∷ 6 ∷ 7 ∷ 8 ∷ [])
+  -- 6: X0 at position 0
+  pub the-whole : VariablesSay A T-built (X0 ∷ []) 0 (places 32) (gives (pos 1 ∷ [])) (spans-of-X0 0 9)
+  -- 7: 3 0 1 put at 4, in lists of ten places, and 3 X0 X0 in the new row
+  pub grown : ReplaceSays A (programme (T ++ places 1) (ends-of-T ++ places 1)) 9 (3 ∷ 0 ∷ 1 ∷ []) 4 (gives (pos 10 ∷ pos 1 ∷ [])) T-with-3-0-1
+  pub equal-parts-then : FindSays A T-with-3-0-1 (3 ∷ X0 ∷ X0 ∷ []) (places 9) (gives (pos 2 ∷ [])) (1 ∷ 7 ∷ places 7)
+  -- 8: 1 put at 1; the change is -2
+  pub shrunk : ReplaceSays A T-built 9 (1 ∷ []) 1 (gives (pos 7 ∷ negsuc 1 ∷ [])) T-with-1
+  -- 9: a row that ends early; two that go on, the second with a bad number; a bad number before the row's end
+  pub ends-early : Refused-row (3 ∷ 0 ∷ []) 8 2
+  pub goes-on : Refused-row (0 ∷ 0 ∷ []) 9 1
+  pub goes-on-badly : Refused-row (0 ∷ 9 ∷ []) 9 1
+  pub bad-number : Refused-row (3 ∷ 9 ∷ 0 ∷ []) 7 1
+  -- 10: with entry 4 of the table set to 5 no call goes on, and nothing is written
+  pub stale-find : FindSays A T-stale (3 ∷ X0 ∷ X0 ∷ []) (places 9) (refused 10 4) (places 9)
+  pub stale-variables : VariablesSay A T-stale (3 ∷ X0 ∷ X0 ∷ []) 1 (places 32) (refused 10 4) (places 32)
+  pub stale-replace : ReplaceSays A T-stale 9 (1 ∷ []) 1 (refused 10 4) T-stale
