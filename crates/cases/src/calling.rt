@@ -1,5 +1,5 @@
 // The public calls, but for replace. Each takes its lists from a case, and prints what it answers and what it leaves in its
-// buffer, whose places all hold 7 before.
+// buffer, in which nothing is written before.
 use script::count;
 use script::list;
 use script::list_at;

@@ -24,9 +24,9 @@ fn call(word: u8, case: &[u16], buffer: &mut [u16]) {
     }
 }
 
-// A case, with a buffer for the call that wants one: all its places hold 7.
+// A case, with a buffer for the call that wants one: nothing is written in it yet.
 fn run(word: u8, case: &[u16]) {
-    let mut buffer = script::sevens();
+    let mut buffer = script::unset_places();
     let n = script::places(case);
     call(word, case, &mut buffer[..n]);
 }

@@ -61,7 +61,7 @@ fn put(case: &[u16], first: usize, row: &mut [u16], table: &mut [u16])
 // A search of the row's whole buffer, with an output of ten places.
 fn seek(arities: &[u16], row: &[u16], table: &[u16], pattern: &[u16]) {
     if 0 < pattern.len() {
-        let mut out = [7u16; 10];
+        let mut out = [script::UNSET; 10];
         found(sparrowhem::find(arities, row, table, pattern, &mut out));
         list(&out);
     }

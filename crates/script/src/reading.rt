@@ -200,11 +200,14 @@ pub fn list_at<'a>(case: &'a [u16], which: usize) -> &'a [u16] {
     &case[begin..end]
 }
 
-// A buffer for a table or an output. Each place holds 7.
-pub fn sevens() -> [u16; 16384]
+// What a place holds that no call has written: a number that no case answers.
+pub const UNSET: u16 = 60606;
+
+// A buffer for a table or an output, with nothing written in it.
+pub fn unset_places() -> [u16; 16384]
     ensures { λ r. ⌜ 16384 ≡ length r ⌝ }
 {
-    [7u16; 16384]
+    [UNSET; 16384]
 }
 
 // The last number of a case; 0 if it has none.

@@ -6,8 +6,8 @@ use borrow.Author.Needs.{needs}
 use Rattle.cases.proofs.run.Statement.{statement}
 use Rattle.cases.proofs.run.Tie as tie
 
-sevens-requires : tie.Need-sevens-requires
-sevens-requires c κs = search needs
+unset-places-requires : tie.Need-unset-places-requires
+unset-places-requires c κs = search needs
 
 places-requires : tie.Need-places-requires
 places-requires c κs = search needs
@@ -28,7 +28,7 @@ pub run-spec : {M : Type 1} → statement M
 run-spec =
     tie.close
     (tie.spec
-    sevens-requires
+    unset-places-requires
     places-requires
     array-borrow-prefix-buffer
     slice-aggregate-call
