@@ -4,6 +4,7 @@ pub mod Fits
 pub mod Fronts
 pub mod Marks
 pub mod Walks
+pub mod Missing
 pub mod Matching
 pub mod Listing
 pub mod Facing

@@ -2,7 +2,7 @@
 -- Assumes nothing.
 use Prim.Native.Nat.{ℕ, suc, _+_, _-_, _≤_, _<_}
 use mathlib.Core.Path.{_≡_, refl, sym, ap, _∙_, subst}
-use mathlib.Core.Logic.{_↔_}
+use mathlib.Core.Logic.{_↔_, _⊎_, inl, inr}
 use mathlib.Core.List.{List, [], append-nil}
 use mathlib.Core.Bool.{true}
 use native.Mathlib.Omega.{arith}
@@ -15,6 +15,7 @@ use Rattle.rows.specs.Row.{verdict, allowed, orElse, sized, reading}
 use Rattle.rows.specs.declared.Leaves.the-variants.{Blanks}
 use Rattle.rows.specs.declared.Verdict.{Verdict}
 use Rattle.rows.specs.declared.Verdict.the-variants.{Whole, Faulty}
+use Rattle.rows.proofs.Tree.{length-prefix}
 use Rattle.rows.proofs.Parse.{prefix-parse}
 use Rattle.rows.proofs.Accept.{count-parse, ranked-parse, lone}
 use Rattle.rows.proofs.Scan.{sized-fits}
@@ -26,6 +27,7 @@ use Rattle.patterns.proofs.Standing.{Planted, planted-at, planted-once,
 use Rattle.patterns.proofs.Fits.{Fits, fits-matches, matches-fits}
 use Rattle.patterns.proofs.Marks.{unmarked-zero, marks-none}
 use Rattle.patterns.proofs.Walks.{Agrees, complete, sound}
+use Rattle.patterns.proofs.Missing.{Lies, misses-where}
 
 pub both-whole : (a b : Verdict) → orElse a b ≡ Whole → (a ≡ Whole) × (b ≡ Whole)
 both-whole Whole b e = (refl, e)
@@ -140,3 +142,24 @@ module _ (a : Alphabet) (P : Programme) (q : List ℕ) (c : Checked a P q) where
     -- where it misses, there is no match
     pub missed : (k x : ℕ) → walk (P .row) (P .table) 0 q p unmarked ≡ misses k x → MatchesAt a (P .row) q p → ⊥
     missed k x z m = let y = right .1 m in let n : _≡_ {A = ℕ} 0 1 = cc (ap through z) in omega arith
+
+    -- and it misses at a number of the pattern, in the subtree at p
+    pub missed-where : (k x : ℕ) → walk (P .row) (P .table) 0 q p unmarked ≡ misses k x → (k < length q) × (p ≤ x) × (x < getD (P .table) p 0)
+    unfolding walk count size
+    missed-where k x z =
+        let h = planted-at (a .arities) (P .row) (P .table) (c .row) p inside in
+        let Q = checked-pattern in
+        go (misses-where (a .arities) (P .row) (P .table) (c .few) (single (treeOf (a .arities) q)) (single under) 0 p unmarked [] k x (Q .ranked) (h .ranked) refl (h .stands)
+        (ap (λ (u : List ℕ). walk (P .row) (P .table) 0 u p unmarked) (append-nil (prefix (single (treeOf (a .arities) q))) ∙ Q .reads) ∙ z))
+      where
+        long : size (single (treeOf (a .arities) q)) ≡ length q
+        long = sym (length-prefix (single (treeOf (a .arities) q))) ∙ ap length (checked-pattern .reads)
+
+        end : getD (P .table) p 0 ≡ p + size (single under)
+        end = stands-end (P .row) (P .table) p _ _ none (planted-at (a .arities) (P .row) (P .table) (c .row) p inside .stands) ∙ omega arith
+
+        go : Lies 0 (size (single (treeOf (a .arities) q))) p (size (single under)) k x
+            ⊎ ((ms : List ℕ) × (walk (P .row) (P .table) (0 + size (single (treeOf (a .arities) q))) [] (p + size (single under)) ms ≡ misses k x))
+            → (k < length q) × (p ≤ x) × (x < getD (P .table) p 0)
+        go (inl l) = (omega (arith, l .to, long), l .first, omega (arith, l .last, end))
+        go (inr r) = let n : _≡_ {A = ℕ} 0 1 = cc (r .1) in absurd (omega arith)

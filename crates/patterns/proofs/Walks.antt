@@ -62,7 +62,7 @@ module _ {A w e : List ℕ} {s : ℕ} {cs f : Forest} {t : ℕ} {ds g : Forest} 
   steps-leaf place ms h = rw (ne-eqb (getD w j 0) s (λ q. omega (arith, q, stands-symbol w e j t ds g (c .stands), symbol-small))) refl
 
   -- past S or a variable, which has no children, the walk goes on with the next trees
-  past-leaf : (place : ℕ) (q ms : List ℕ) → firstVariable ≤ s
+  pub past-leaf : (place : ℕ) (q ms : List ℕ) → firstVariable ≤ s
       → walk w e (place + 1) ((prefix cs ++ prefix f) ++ q) (getD e j 0) ms ≡ walk w e (place + size cs + 1) (prefix f ++ q) (j + size ds + 1) ms
   unfolding prefix size
   past-leaf place q ms h = rw (leaf-alone A (allowed Blanks A) s cs f (c .few) (c .pattern) h, stands-end w e j t ds g (c .stands), add-zero place) refl

@@ -8,7 +8,7 @@ use Rattle.rows.specs.Row.{pick, isVariable}
 use Rattle.patterns.specs.declared.Leaf.{Leaf}
 use Rattle.patterns.specs.declared.Leaf.the-variants.{Plain, Blank, Variable}
 
--- what a number of a pattern stands for: the blank, X0 and the numbers after it up to X15, any other for itself
+-- what a number of a pattern stands for: `blank` is S, `firstVariable` is X0 and the next are X1 to X15, any other stands for itself
 unfoldable pub leaf : ℕ → Leaf
 leaf s = pick (eqb s blank) Blank (pick (isVariable s) (Variable (s - firstVariable)) Plain)
 

@@ -3,6 +3,7 @@
 -- Assumes nothing.
 use Prim.Native.Nat.{ℕ, suc, _+_, _-_, _≤_, _<_}
 use mathlib.Core.Path.{_≡_, refl, sym, ap, _∙_, subst}
+use mathlib.Core.Logic.{_⊎_, inl, inr}
 use mathlib.Core.List.{List, [], append-nil}
 use native.Mathlib.Omega.{arith}
 use lib.ListN.{length, getD, drop, drop-of-length-le}
@@ -11,7 +12,7 @@ use Rattle.rows.specs.Tree.{Forest, Forest.none, Forest.grow, Tree, single, siz
 use Rattle.rows.specs.Parse.{first, parse, treeOf, table, behind}
 use Rattle.rows.specs.Row.{symbol, allowed}
 use Rattle.rows.specs.declared.Leaves.the-variants.{Blanks}
-use Rattle.rows.proofs.Tree.{ranked-first}
+use Rattle.rows.proofs.Tree.{ranked-first, length-prefix}
 use Rattle.rows.proofs.Parse.{prefix-parse, size-parse}
 use Rattle.rows.proofs.Accept.{count-parse, ranked-parse}
 use Rattle.rows.proofs.Entry.{behind-some, drop-table}
@@ -22,6 +23,7 @@ use Rattle.patterns.proofs.Standing.{Stands, Planted, stands-first}
 use Rattle.patterns.proofs.Fits.{fits-matches, matches-fits}
 use Rattle.patterns.proofs.Marks.{unmarked-zero, marks-none}
 use Rattle.patterns.proofs.Walks.{complete, sound}
+use Rattle.patterns.proofs.Missing.{Lies, misses-where}
 use Rattle.patterns.proofs.Matching.{PatternOf, pattern-of}
 use Rattle.plain.specs.Plain.{starts, Lent, Passes, Tryable}
 use Rattle.plain.proofs.Spelling.{spells-some, ranked-drop, first-within}
@@ -131,3 +133,22 @@ module _ (a : Alphabet) (l q : List ℕ) (c : Tryable a l q) where
   miss-differs k x z =
       let there : walk l (table (a .arities) l) 0 q 0 unmarked ≡ misses k x = ap (λ (j : ℕ). walk l (table (a .arities) l) 0 q j unmarked) (sym start) ∙ z in
       (missed k x there, there)
+
+  -- these are a place of the pattern and one of the part
+  pub miss-where : (k x : ℕ) → walk l (table (a .arities) l) 0 q 0 unmarked ≡ misses k x → (k < length q) × (x < length l)
+  unfolding walk count behind
+  miss-where k x z =
+      go (misses-where (a .arities) l (table (a .arities) l) (c .few) (single (treeOf (a .arities) q)) (single (treeOf (a .arities) l)) 0 0 unmarked [] k x (pattern .ranked) (plant .ranked) refl (plant .stands)
+      (ap (λ (u : List ℕ). walk l (table (a .arities) l) 0 u 0 unmarked) (append-nil (prefix (single (treeOf (a .arities) q))) ∙ spelt) ∙ z))
+    where
+      long : size (single (treeOf (a .arities) q)) ≡ length q
+      long = sym (length-prefix (single (treeOf (a .arities) q))) ∙ ap length spelt
+
+      one : size (first 1 (parse (a .arities) l)) ≡ size (single (treeOf (a .arities) l))
+      one = ap size (subtree-first (a .arities) l 0 some)
+
+      go : Lies 0 (size (single (treeOf (a .arities) q))) 0 (size (single (treeOf (a .arities) l))) k x
+          ⊎ ((ms : List ℕ) × (walk l (table (a .arities) l) (0 + size (single (treeOf (a .arities) q))) [] (0 + size (single (treeOf (a .arities) l))) ms ≡ misses k x))
+          → (k < length q) × (x < length l)
+      go (inl h) = (omega (arith, h .to, long), omega (arith, h .last, one, first-within (a .arities) 1 l))
+      go (inr r) = let n : _≡_ {A = ℕ} 0 1 = cc (r .1) in absurd (omega arith)

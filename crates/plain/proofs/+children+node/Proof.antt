@@ -68,8 +68,12 @@ module _ (t : ℕ) where
   abbrev Here : Type 0
   Here = children-lts.In-loop children-calls children-at children.Post children-Inv-loop children-μ-loop
 
+  abbrev loop-start : children-lts.At-loop children-calls children-at children.Post children-Inv-loop children-μ-loop
+      → children-lts.Start children-calls children-at children.Post children-Inv-loop children-μ-loop
+  loop-start l = l .before .before .before .before .before
+
   abbrev start : Here → children-lts.Start children-calls children-at children.Post children-Inv-loop children-μ-loop
-  start i = i .before .before .before .before .before .before
+  start i = loop-start (i .before)
 
   abbrev so-far : (i : Here)
       → (let s = start i .args in let l = i .before .loop in
@@ -83,8 +87,11 @@ module _ (t : ℕ) where
   abbrev Told : Type 0
   Told = children-lts.After-next children-calls children-at children.Post children-Inv-loop children-μ-loop
 
+  abbrev tried-in : children-lts.After-node children-calls children-at children.Post children-Inv-loop children-μ-loop → Here
+  tried-in n = n .before .before .before .before
+
   abbrev told-in : Told → Here
-  told-in c = c .before .before .before .before .before .before
+  told-in c = tried-in (c .before .before)
 
   next-passes : (c : Told)
       → (let i = told-in c in let s = start i .args in let l = i .before .loop in
@@ -137,9 +144,9 @@ module _ (t : ℕ) where
 
   children-returns : children-lts.Need-returns children-calls children-at children.Post children-Inv-loop children-μ-loop
   children-returns c =
-      let i = c .before .before .before .before .before .before in
+      let n = c .before .before in let i = tried-in n in
       tells-miss _ _ _ _ _ _ _ _ _ _ _ (c .enum-told .given .1)
-      (misses-next _ _ _ _ _ _ _ (start i .pre .1) _ _ _ _ (less i) (so-far i) _ _ (c .before .before .node .ensures .miss _ _ (c .enum-told .given .1)))
+      (misses-next _ _ _ _ _ _ _ (start i .pre .1) _ _ _ _ (less i) (so-far i) _ _ (n .node .ensures .miss _ _ (c .enum-told .given .1)))
 
   children-add-p : children-lts.Need-add-p children-calls children-at children.Post children-Inv-loop children-μ-loop
   children-add-p c = omega (arith, taken (next-passes (c .before)) .0, start (told-in (c .before)) .good)
@@ -160,19 +167,23 @@ module _ (t : ℕ) where
   children-returns-2 : children-lts.Need-returns-2 children-calls children-at children.Post children-Inv-loop children-μ-loop
   children-returns-2 c =
       let l = c .before .loop in
-      let s = c .before .before .before .before .before .before .args in
+      let s = loop-start (c .before) .args in
       let all : l .counter ≡ s .k = omega (arith, l .inv .0, c .loop-test .left) in
       tells-past (subst (λ (i : ℕ). Passes (s .arities .now) (s .b) (s .pattern .now) (s .part .now) (s .rest .now) (s .marks .now) i (l .p) (l .r) (l .marks)) all (l .inv .1))
 
   abbrev Begin : Type 0
   Begin = node-lts.Start node-calls node-at node.Post
 
-  -- where the symbols are the same, and the children are tried
+  -- where the symbols were compared
+  abbrev compared-start : node-lts.After-same node-calls node-at node.Post → Begin
+  compared-start c = c .before .before .before .before .before .before .before
+
+  -- where they are the same, and the children are tried
   abbrev Alike : Type 0
   Alike = node-lts.After-arity-of node-calls node-at node.Post
 
   abbrev alike-start : Alike → Begin
-  alike-start a = a .before .before .before .before .before .before .before .before .before
+  alike-start a = compared-start (a .before .before)
 
   alike : (a : Alike) → (let s = alike-start a .args in sameSymbol (getD (s .rest .now) 0 0) (getD (s .pattern .now) 0 0) ≡ true)
   alike a = sym (a .before .before .same .ensures) ∙ a .before .if1 .taken
@@ -184,8 +195,11 @@ module _ (t : ℕ) where
   abbrev Found : Type 0
   Found = node-lts.After-found node-calls node-at node.Post
 
+  abbrev children-in : node-lts.After-children node-calls node-at node.Post → Alike
+  children-in n = n .before .before .before .before
+
   abbrev found-in : Found → Alike
-  found-in c = c .before .before .before .before .before .before
+  found-in c = children-in (c .before .before)
 
   inside-passes : (c : Found)
       → (let s = alike-start (found-in c) .args in
@@ -199,7 +213,7 @@ module _ (t : ℕ) where
   Unlike = node-lts.After-leaf-of node-calls node-at node.Post
 
   abbrev unlike-start : Unlike → Begin
-  unlike-start l = l .before .before .before .before .before .before .before .before .before
+  unlike-start l = compared-start (l .before .before)
 
   unlike : (l : Unlike) → (let s = unlike-start l .args in sameSymbol (getD (s .rest .now) 0 0) (getD (s .pattern .now) 0 0) ≡ false)
   unlike l = sym (l .before .before .same .ensures) ∙ l .before .if1 .left
@@ -222,7 +236,7 @@ module _ (t : ℕ) where
   node-shared-slice-read-s c = let s = c .before .before .before .before .before in pattern-some _ _ _ _ _ _ _ (s .pre .1) (omega arith)
 
   node-shared-slice-read-same : node-lts.Need-shared-slice-read-same node-calls node-at node.Post
-  node-shared-slice-read-same c = let s = c .before .before .before .before .before .before in rest-some _ _ _ _ _ _ _ (s .pre .1) (omega arith)
+  node-shared-slice-read-same c = let k = c .before in let s = k .before .before .before .before .before in rest-some _ _ _ _ _ _ _ (s .pre .1) (omega arith)
 
   node-same-requires : node-lts.Need-same-requires node-calls node-at node.Post
   node-same-requires c κs = search needs
@@ -267,9 +281,9 @@ module _ (t : ℕ) where
 
   node-returns : node-lts.Need-returns node-calls node-at node.Post
   node-returns c =
-      let a = c .before .before .before .before .before .before in
+      let n = c .before .before in let a = children-in n in
       tells-miss _ _ _ _ _ _ _ _ _ _ _ (c .enum-told .given .1)
-      (misses-inside _ _ _ _ _ _ (alike-start a .pre .1) (alike a) _ (a .arity-of .ensures) _ _ (c .before .before .children .ensures .miss _ _ (c .enum-told .given .1)))
+      (misses-inside _ _ _ _ _ _ (alike-start a .pre .1) (alike a) _ (a .arity-of .ensures) _ _ (n .children .ensures .miss _ _ (c .enum-told .given .1)))
 
   node-add-t24 : node-lts.Need-add-t24 node-calls node-at node.Post
   node-add-t24 c = omega (arith, taken (inside-passes (c .before)) .0, alike-start (found-in (c .before)) .good)
@@ -281,7 +295,7 @@ module _ (t : ℕ) where
   node-returns-2 c = tells-past (inside-passes (c .before))
 
   node-sub-at : node-lts.Need-sub-at node-calls node-at node.Post
-  node-sub-at c = let same = c .before in let s = same .before .before .before .before .before .before .before in lent-within _ _ _ _ _ _ _ (s .pre .1)
+  node-sub-at c = lent-within _ _ _ _ _ _ _ (compared-start (c .before) .pre .1)
 
   node-leaf-of-requires : node-lts.Need-leaf-of-requires node-calls node-at node.Post
   node-leaf-of-requires c κs = search needs

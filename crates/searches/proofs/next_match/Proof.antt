@@ -60,12 +60,16 @@ bare-start c = c .before .before .before .before .before .before
 bare : (c : Bare) → (let s = bare-start c in c .before .leaf-of .result ≡ Plain → ⊥)
 bare c z = told-apart (c .before .leaf-of .result) z (c .match .keys2)
 
+-- where a symbol is sought
+abbrev plain-start : tie.After-enum-told Inv-loop μ-loop Inv-positions μ-positions → Start
+plain-start c = c .before .before .before .before .before .before .before
+
 -- at the test of the outer loop
 abbrev Outer : Type 0
 Outer = tie.At-positions Inv-loop μ-loop Inv-positions μ-positions
 
 abbrev start : Outer → Start
-start u = u .before .before .before .before .before .before .before .before
+start u = plain-start (u .before)
 
 -- at that of the inner one
 abbrev Inner : Type 0
@@ -99,7 +103,7 @@ returns-2 c a k = let s = bare-start (c .before) in past-row (lent s) (sought s)
 
 positions-holds : tie.Need-positions-holds Inv-loop μ-loop Inv-positions μ-positions
 positions-holds c =
-    let s = c .before .before .before .before .before .before .before in
+    let s = plain-start c in
     (refl, passed-none (lent s) (sought s) (s .args .from) (s .pre .1))
 
 mul-same : tie.Need-mul-same Inv-loop μ-loop Inv-positions μ-positions
@@ -156,9 +160,9 @@ positions-less c = search needs
 
 positions-again : tie.Need-positions-again Inv-loop μ-loop Inv-positions μ-positions
 positions-again c =
-    let n = c .before .before .before .before .before .before .before .before in let l = n .before in let u = outer l in let s = start u in let o = u .positions in let i = l .loop in
-    let missed = walking-miss (lent s) (sought s) (o .p) (s .pre .0) (i .marks) (i .j) (i .k) (i .inv .2) (n .loop-test .taken) _ _ (c .before .before .step .ensures) _ _ (c .enum-told2 .given .1) in
-    (refl, subst (λ n. Passed (lent s) (sought s) (s .args .from) (n + 1)) (sym (i .inv .0)) (passed-more (lent s) (sought s) (s .args .from) (o .p) (o .inv .1) (search needs) _ _ (missed (s .args .table .now) (lent-ends (lent s)))))
+    let t = c .before .before in let other = t .before .before in let n = other .before .before .before .before in let l = n .before in let u = outer l in let s = start u in let o = u .positions in let i = l .loop in
+    let missed = walking-miss (lent s) (sought s) (o .p) (s .pre .0) (i .marks) (i .j) (i .k) (i .inv .2) (n .loop-test .taken) _ _ (t .step .ensures) _ _ (c .enum-told2 .given .1) in
+    (refl, subst (λ n. Passed (lent s) (sought s) (s .args .from) (n + 1)) (sym (i .inv .0)) (passed-more (lent s) (sought s) (s .args .from) (o .p) (o .inv .1) (omega (arith, l .before .before .before .before .positions-test .taken, o .inv .0)) _ _ (missed (s .args .table .now) (lent-ends (lent s)))))
 
 add-k : tie.Need-add-k Inv-loop μ-loop Inv-positions μ-positions
 add-k c = search needs

@@ -78,7 +78,7 @@ enum-known-found-2 c = search needs
 
 returns : tie.Need-returns Inv-loop μ-loop
 returns c =
-    let t = c .before .before .before in let n = t .before .before .before .before .before .before in let l = n .before in let s = start l in let i = l .loop in
+    let t = c .before .before .before in let other = t .before .before in let n = other .before .before .before .before in let l = n .before in let s = start l in let i = l .loop in
     let missed = walking-miss (lent s) (sought s) (s .args .p) (s .pre .0) (i .marks) (i .j) (i .k) (i .inv .1) (n .loop-test .taken) _ _ (t .step .ensures) _ _ (c .before .found2 .given .1) in
     variables-none (lent s) (sought s) (s .args .p) (s .args .out .now) _ _ (s .pre .1) missed
 

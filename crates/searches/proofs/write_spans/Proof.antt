@@ -65,7 +65,7 @@ loop-less c = search needs
 
 loop-again : tie.Need-loop-again Inv-loop μ-loop
 loop-again c =
-    let o = c .before .before .before .loop in let s = c .before .before .before .before .before .before in let g = s .args in (
+    let l = c .before .before .before in let o = l .loop in let s = l .before .before .before in let g = s .args in (
       search needs,
       simp length-set (o .inv .1),
       ap (λ l. set (set l (o .i + o .i) (c .before .mark-begin .result)) (o .i + o .i + 1) (c .mark-end .result)) (o .inv .2)
