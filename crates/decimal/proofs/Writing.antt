@@ -10,7 +10,7 @@ use lib.ListN.{length, take, drop, set, length-append}
 use lib.Seq.{length-take-le, take-at, set-split, drop-append-add, drop-drop}
 use Rattle.rows.specs.Buffers.{written}
 use Rattle.rows.proofs.Buffers.{length-written, written-nil}
-use Rattle.decimal.specs.Printed.{Printed}
+use Rattle.decimal.specs.Inside.{Printed}
 
 pub written-byte : (b : List ℕ) (at x : ℕ) → at < length b → set b at x ≡ written b at (x ∷ [])
 unfolding written

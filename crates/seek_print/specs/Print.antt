@@ -6,7 +6,7 @@ use lib.ListN.{getD}
 use Rattle.rows.specs.Row.{pick}
 use Rattle.refusal_numbers.specs.Numbers.{number, place}
 use Rattle.rows.specs.declared.Refusal.{Refusal}
-use Rattle.decimal.specs.Numeral.{numeral}
+use Rattle.decimal.specs.Lines.{numeral}
 
 -- `refused N P`
 unfoldable pub refusalText : Refusal → List ℕ

@@ -1,7 +1,7 @@
 // The answer of `seek` as text: a refusal, the number of the matches, and the line of a match.
 ghost use Prim.Native.Nat.{_+_, _≤_};
 ghost use lib.ListN.{length};
-ghost use Rattle.decimal.specs.Printed.{Printed};
+ghost use Rattle.decimal.specs.Inside.{Printed};
 ghost use Rattle.seek_print.specs.Print.{refusalText, countText, spanText, spansText, matchText};
 use rows::Refusal;
 

@@ -16,7 +16,7 @@ use Rattle.patterns.specs.Answers.{MatchesAt, isLeaf, span, spansBelow, spans}
 use Rattle.searches.specs.Searches.{Binds}
 use Rattle.patterns.specs.Pattern.{leaf}
 use Rattle.patterns.proofs.Listing.{mem-at}
-use Rattle.decimal.specs.Printed.{Printed}
+use Rattle.decimal.specs.Inside.{Printed}
 use Rattle.decimal.proofs.Writing.{printed-none, printed-more}
 use Rattle.seek_text.specs.Search.{Ready, lineText, linesText, LinePrinted, PagePrinted}
 

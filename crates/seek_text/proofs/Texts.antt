@@ -7,7 +7,8 @@ use native.Mathlib.Omega.{arith}
 use lib.ListN.{length, drop, length-append, length-drop, drop-of-length-le}
 use Rattle.rows.specs.Buffers.{written}
 use Rattle.rows.specs.declared.Refusal.the-variants as refusal
-use Rattle.decimal.specs.Lines.{line, HasLine, LineRead, Room}
+use Rattle.decimal.specs.Lines.{line}
+use Rattle.decimal.specs.Inside.{HasLine, LineRead, LineRoom}
 use Rattle.decimal.specs.declared.Cursor.{Cursor}
 use Rattle.decimal.proofs.Writing.{written-append}
 use Rattle.decimal.proofs.Lining.{line-begins, room-next}
@@ -17,7 +18,7 @@ use Rattle.seek_text.specs.Input.{NoLine, Faulty, Faulty.here, Faulty.la
 abbrev pub top : Cursor
 top = record { at = 0; line = 1 }
 
-pub top-room : (b y : List ℕ) → length b ≤ 65536 → 32768 ≤ length y → Room b top y 0
+pub top-room : (b y : List ℕ) → length b ≤ 65536 → 32768 ≤ length y → LineRoom b top y 0
 top-room b y h k = record { numbers = omega arith; buffer = omega arith; lines = omega arith }
 
 -- no line was found at a position

@@ -11,7 +11,7 @@ use Rattle.rows.specs.declared.Check.{Check}
 use Rattle.rows.specs.declared.Check.the-variants as check
 use Rattle.patterns.specs.Answers.{MatchesAt, Listed, spans}
 use Rattle.patterns.specs.Searchable.{Checked}
-use Rattle.decimal.specs.Printed.{Printed}
+use Rattle.decimal.specs.Inside.{Printed}
 use Rattle.sparrowhem.specs.declared.search.Found.{Found as Matching}
 use Rattle.sparrowhem.specs.declared.search.Found.the-variants.{Matches, Refused}
 use Rattle.seek_print.specs.Print.{refusalText, countText, matchText}

@@ -7,7 +7,8 @@ use mathlib.Core.Logic.{inr}
 use mathlib.Core.List.{_++_}
 use lib.ListN.{length, getD, drop}
 use native.Mathlib.Omega.{arith}
-use Rattle.decimal.specs.Numeral.{isDigit, numeral}
+use Rattle.decimal.specs.Lines.{numeral}
+use Rattle.decimal.specs.Promises.{isDigit}
 use Rattle.decimal.proofs.Reading.{none-larger, digit-more, digit-here, ended-is}
 use borrow.Author.Needs.{needs}
 use Rattle.decimal.proofs.digits.Statement.{statement}

@@ -5,7 +5,7 @@ use mathlib.Core.Path.{_≡_, refl}
 use native.Mathlib.Numerals.{add-one}
 use native.Mathlib.Omega.{arith}
 use lib.ListN.{length}
-use Rattle.decimal.specs.Printed.{Printed}
+use Rattle.decimal.specs.Inside.{Printed}
 use Rattle.decimal.proofs.Writing.{printed-none, printed-more}
 use Rattle.seek_print.specs.Print.{spansText}
 use borrow.Author.Needs.{needs}
