@@ -8,6 +8,10 @@ use Rattle.refusal_numbers.specs.Numbers.{number, place}
 use Rattle.rows.specs.declared.Refusal.{Refusal}
 use Rattle.decimal.specs.Lines.{numeral}
 
+-- how many variables there are
+abbrev pub variables : ℕ
+variables = 16
+
 -- `refused N P`
 unfoldable pub refusalText : Refusal → List ℕ
 refusalText r =
@@ -29,4 +33,4 @@ spansText s (suc v) = spansText s v ++ spanText v (getD s (v + v) 0) (getD s (v 
 
 -- `at P E`, and the spans of the variables that the pattern has
 unfoldable pub matchText : ℕ → ℕ → List ℕ → List ℕ
-matchText p e s = (97 ∷ 116 ∷ []) ++ ((32 ∷ numeral p) ++ ((32 ∷ numeral e) ++ (spansText s 16 ++ (10 ∷ []))))
+matchText p e s = (97 ∷ 116 ∷ []) ++ ((32 ∷ numeral p) ++ ((32 ∷ numeral e) ++ (spansText s variables ++ (10 ∷ []))))
