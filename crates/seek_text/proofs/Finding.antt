@@ -7,7 +7,7 @@ use mathlib.Core.Bool.{Bool, true, false}
 use native.Mathlib.Omega.{arith}
 use borrow.Author.Tests.{le-ltb, ltb-false}
 use lib.Dec.{ltb}
-use lib.ListN.{length, drop, take}
+use lib.ListN.{length, drop, take, replicate, length-replicate}
 use Rattle.rows.specs.Row.{pick, sized}
 use Rattle.rows.specs.Parse.{table}
 use Rattle.rows.specs.Buffers.{written}
@@ -24,6 +24,8 @@ use Rattle.tables.proofs.Differ.{differs-same}
 use Rattle.rows.proofs.Passing.{both-fine, sizes-fits}
 use Rattle.patterns.specs.Answers.{Listed}
 use Rattle.patterns.specs.Searchable.{Checked}
+use Rattle.patterns.specs.Walk.{listOf}
+use Rattle.patterns.proofs.Promises.{walk-lists}
 use Rattle.searches.proofs.Counting.{listed-length}
 use Rattle.checks.specs.Checks.{buildCheck, searchCheck, findCheck}
 use Rattle.sparrowhem.specs.Build.{Built}
@@ -31,7 +33,8 @@ use Rattle.sparrowhem.specs.Search.{Finds}
 use Rattle.sparrowhem.specs.declared.search.Found.{Found}
 use Rattle.sparrowhem.specs.declared.search.Found.the-variants as found-as
 use Rattle.checks.proofs.Passing.{search-checked}
-use Rattle.seek_text.specs.Search.{seekCheck, Searched}
+use Rattle.seek_text.specs.Seek.{seekCheck}
+use Rattle.seek_text.specs.Inside.{Searched}
 
 -- a buffer of 16,384 places is never too short
 sizes-roomy : (n m : ℕ) → 16384 ≤ m → sizes n m ≡ asRow (sized n 16384)
@@ -107,7 +110,8 @@ module _ (A w q t t′ y y′ : List ℕ) (room : 16384 ≤ length t) (places : 
         let s : searchCheck A w t′ q ≡ Fine = check-is ∙ e in
         let k : Checked A w t′ q = search-checked A w t′ q s in
         let l : Listed A w q (length w) (f .positions) = f .listed s in
-        let m : length (f .positions) ≤ length y = omega (arith, listed-length A w t′ q k (length w) (f .positions) (omega arith) l, k .row .sized .most) in
+        let n : length (f .positions) ≤ 16384 = omega (arith, listed-length A w t′ q k (length w) (f .positions) (omega arith) l, k .row .sized .most) in
+        let m : length (f .positions) ≤ length y = omega arith in
         let c : findCheck A w t′ q (length (f .positions)) (length y) ≡ Fine = rw (s, le-ltb (length y) (length (f .positions)) m) in
         let g : r ≡ found-as.Matches (length (f .positions)) = f .answer ∙ rw c in
         let z : y′ ≡ written y 0 (f .positions) = f .buffer ∙ rw c in
@@ -115,6 +119,7 @@ module _ (A w q t t′ y y′ : List ℕ) (room : 16384 ≤ length t) (places : 
         rw g (record {
           fine = seek-check ∙ e;
           count = rw z (omega (arith, length-written y 0 (f .positions) (omega arith)));
+          few = n;
           ready = record { checked = k; listed = rw p l };
         })
 
@@ -124,3 +129,13 @@ module _ (A w q t t′ y y′ : List ℕ) (room : 16384 ≤ length t) (places : 
         go : (c : Check) → pattern A q ≡ c → Searched A w q r t′ y′
         go Fine e = all-found e
         go (Refused x) e = no-pattern x e
+
+-- where nothing is refused, the list of all matches is there: any buffer with room enough takes the row's table
+listed-by : (A w q z : List ℕ) → 16384 ≤ length z → seekCheck A w q ≡ Fine → Listed A w q (length w) (listOf A w q)
+listed-by A w q z h e =
+    let both = both-fine (buildCheck A w (length z)) (pattern A q) (sym (seek-is A w q (length z) h) ∙ e) in
+    let t = written z 0 (table A w) in
+    walk-lists A w t q (search-checked A w t q (built-search A w z (both .0) q ∙ both .1))
+
+pub fine-listed : (A w q : List ℕ) → seekCheck A w q ≡ Fine → Listed A w q (length w) (listOf A w q)
+fine-listed A w q e = listed-by A w q (replicate {A = ℕ} 16384 0) (omega (arith, length-replicate {A = ℕ} 16384 0)) e

@@ -12,13 +12,14 @@ use Rattle.decimal.specs.Inside.{HasLine, LineRead, LineRoom}
 use Rattle.decimal.specs.declared.Cursor.{Cursor}
 use Rattle.decimal.proofs.Writing.{written-append}
 use Rattle.decimal.proofs.Lining.{line-begins, room-next}
-use Rattle.seek_text.specs.Input.{NoLine, Faulty, Faulty.here, Faulty.later, Faulty.extra, Refuses, Refuses.faulty, ListsRead}
+use Rattle.seek_text.specs.Seek.{inputMost, NoLine, Faulty, Faulty.here, Faulty.later, Faulty.extra, Refuses, Refuses.faulty}
+use Rattle.seek_text.specs.Inside.{ListsRead, numbersMost}
 
 -- the first line's cursor
 abbrev pub top : Cursor
 top = record { at = 0; line = 1 }
 
-pub top-room : (b y : List ℕ) → length b ≤ 65536 → 32768 ≤ length y → LineRoom b top y 0
+pub top-room : (b y : List ℕ) → length b ≤ inputMost → numbersMost ≤ length y → LineRoom b top y 0
 top-room b y h k = record { numbers = omega arith; buffer = omega arith; lines = omega arith }
 
 -- no line was found at a position
@@ -28,7 +29,7 @@ None b at = (ns : List ℕ) (end : ℕ) → HasLine b at ns end → ⊥
 none-line : (b : List ℕ) (at : ℕ) → None b at → NoLine (drop at b)
 none-line b at h ns z small e = h ns _ (line-begins b at ns z small e)
 
-module _ (b y : List ℕ) (short : length b ≤ 65536) where
+module _ (b y : List ℕ) (short : length b ≤ inputMost) where
   pub refused-first : (k : ℕ) → None b 0 × (k ≡ 1) → Refuses b (refusal.Line k)
   refused-first k h = rw (h .1) (faulty short (here (none-line b 0 (h .0))))
 
@@ -62,7 +63,7 @@ module _ (b y : List ℕ) (short : length b ≤ 65536) where
             l₁ .stands .text
             ∙ ap (λ z. line (l₁ .numbers) ++ z) (l₂ .stands .text ∙ ap (λ z. line (l₂ .numbers) ++ z) (l₃ .stands .text))
 
-        pub lists-read : 32768 ≤ length y → length b ≤ d₃ .at → ListsRead b y a r p y₃
+        pub lists-read : numbersMost ≤ length y → length b ≤ d₃ .at → ListsRead b y a r p y₃
         lists-read room h =
             let A = l₁ .numbers in
             let w = l₂ .numbers in
