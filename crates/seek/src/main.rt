@@ -1,9 +1,10 @@
 // `seek`: an alphabet, a row and a pattern on standard input; the matches, or a refusal, on standard output.
 // What it reads and writes is the work of `seek_text`; here the bytes come in and go out.
 ghost use mathlib.Core.Path.{_≡_};
-ghost use Prim.Native.Nat.{_≤_};
+ghost use Prim.Native.Nat.{_+_, _≤_};
 ghost use lib.ListN.{length};
 ghost use Rattle.seek_print.specs.Inside.{lineMost};
+ghost use Rattle.seek_text.specs.Seek.{inputMost};
 ghost use Rattle.seek_text.specs.Pages.{Printable};
 ghost use Rattle.seek_text.specs.Inside.{numbersMost};
 use libc::STDIN_FILENO;
@@ -15,7 +16,9 @@ use seek_text::Response;
 // Room for the longest input, and for one byte more, which tells that an input is longer.
 const INPUT_ROOM: usize = INPUT_MOST + 1;
 
-fn input_room() -> [u8; INPUT_ROOM] {
+fn input_room() -> [u8; INPUT_ROOM]
+    ensures { λ r. ⌜ inputMost + 1 ≡ length r ⌝ }
+{
     [0u8; INPUT_ROOM]
 }
 

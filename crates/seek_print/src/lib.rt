@@ -8,6 +8,8 @@ use rows::Refusal;
 
 // How many variables there are.
 const VARIABLES: usize = 16;
+// The places of their spans: begin and end of each.
+pub const SPANS: usize = 2 * VARIABLES;
 // The most bytes of a line.
 pub const LINE_MOST: usize = 1053;
 

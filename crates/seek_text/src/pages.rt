@@ -10,6 +10,7 @@ ghost use Rattle.seek_text.specs.Pages.{linesOf, Holds, Printable, PageP
 ghost use Rattle.seek_text.specs.Inside.{LinePrinted};
 use crate::search::Response;
 use seek_print::LINE_MOST;
+use seek_print::SPANS;
 use seek_print::put_count;
 use seek_print::put_match;
 use seek_print::put_refusal;
@@ -27,7 +28,7 @@ fn put_found(
     ensures { λ r. ⌜ LinePrinted (now (row .entry)) (now (table .entry)) (now (pattern .entry)) p (now (out .entry)) at r (now (out .exit)) ⌝ }
 {
     let position = p as usize;
-    let mut spans = [0u16; 32];
+    let mut spans = [0u16; SPANS];
     searches::variables_at(row, table, pattern, position, &mut spans);
     put_match(out, at, p, table[position], &spans)
 }
