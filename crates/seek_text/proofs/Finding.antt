@@ -33,24 +33,24 @@ use Rattle.sparrowhem.specs.Search.{Finds}
 use Rattle.sparrowhem.specs.declared.search.Found.{Found}
 use Rattle.sparrowhem.specs.declared.search.Found.the-variants as found-as
 use Rattle.checks.proofs.Passing.{search-checked}
-use Rattle.seek_text.specs.Seek.{seekCheck}
+use Rattle.seek_text.specs.Seek.{rowMost, seekCheck}
 use Rattle.seek_text.specs.Inside.{Searched}
 
 -- a buffer of 16,384 places is never too short
-sizes-roomy : (n m : ℕ) → 16384 ≤ m → sizes n m ≡ asRow (sized n 16384)
+sizes-roomy : (n m : ℕ) → rowMost ≤ m → sizes n m ≡ asRow (sized n rowMost)
 unfolding sizes sized
-sizes-roomy n m h = go (ltb n 1) (ltb 16384 n) refl
+sizes-roomy n m h = go (ltb n 1) (ltb rowMost n) refl
   where
-    go : (a b : Bool) → ltb 16384 n ≡ b
+    go : (a b : Bool) → ltb rowMost n ≡ b
         → asRow (pick a (Faulty Empty) (pick b (Faulty (Long n)) Whole)) then pick (ltb m n) (Refused (BufferShort n)) Fine ≡ asRow (pick a (Faulty Empty) (pick b (Faulty (Long n)) Whole))
     go true b e = refl
     go false true e = refl
-    go false false e = rw (le-ltb m n (let l = ltb-false 16384 n e in omega arith))
+    go false false e = rw (le-ltb m n (let l = ltb-false rowMost n e in omega arith))
 
 -- the refusals of a build, and then the pattern's
-seek-is : (A w q : List ℕ) (m : ℕ) → 16384 ≤ m → seekCheck A w q ≡ buildCheck A w m then pattern A q
+seek-is : (A w q : List ℕ) (m : ℕ) → rowMost ≤ m → seekCheck A w q ≡ buildCheck A w m then pattern A q
 unfolding seekCheck buildCheck
-seek-is A w q m h = rw (sizes-roomy (length w) m h) (go (alphabet A) (asRow (sized (length w) 16384)) (symbols A w) (pattern A q))
+seek-is A w q m h = rw (sizes-roomy (length w) m h) (go (alphabet A) (asRow (sized (length w) rowMost)) (symbols A w) (pattern A q))
   where
     go : (a b c d : Check) → a then b then c then d ≡ (a then b then c) then d
     go Fine Fine Fine d = refl
@@ -81,7 +81,7 @@ module _ (A w t : List ℕ) (e : buildCheck A w (length t) ≡ Fine) where
   unfolding searchCheck
   built-search q = rw built-given
 
-module _ (A w q t t′ y y′ : List ℕ) (room : 16384 ≤ length t) (places : 16384 ≤ length y) where
+module _ (A w q t t′ y y′ : List ℕ) (room : rowMost ≤ length t) (places : rowMost ≤ length y) where
   pub searched-refused : (r : Refusal) → Built A w t (Refused r) t′ → seekCheck A w q ≡ Refused r
   searched-refused r b = seek-is A w q (length t) room ∙ ap (λ c. c then pattern A q) (sym (b .answer))
 
@@ -110,7 +110,7 @@ module _ (A w q t t′ y y′ : List ℕ) (room : 16384 ≤ length t) (places : 
         let s : searchCheck A w t′ q ≡ Fine = check-is ∙ e in
         let k : Checked A w t′ q = search-checked A w t′ q s in
         let l : Listed A w q (length w) (f .positions) = f .listed s in
-        let n : length (f .positions) ≤ 16384 = omega (arith, listed-length A w t′ q k (length w) (f .positions) (omega arith) l, k .row .sized .most) in
+        let n : length (f .positions) ≤ rowMost = omega (arith, listed-length A w t′ q k (length w) (f .positions) (omega arith) l, k .row .sized .most) in
         let m : length (f .positions) ≤ length y = omega arith in
         let c : findCheck A w t′ q (length (f .positions)) (length y) ≡ Fine = rw (s, le-ltb (length y) (length (f .positions)) m) in
         let g : r ≡ found-as.Matches (length (f .positions)) = f .answer ∙ rw c in
@@ -131,11 +131,11 @@ module _ (A w q t t′ y y′ : List ℕ) (room : 16384 ≤ length t) (places : 
         go (Refused x) e = no-pattern x e
 
 -- where nothing is refused, the list of all matches is there: any buffer with room enough takes the row's table
-listed-by : (A w q z : List ℕ) → 16384 ≤ length z → seekCheck A w q ≡ Fine → Listed A w q (length w) (listOf A w q)
+listed-by : (A w q z : List ℕ) → rowMost ≤ length z → seekCheck A w q ≡ Fine → Listed A w q (length w) (listOf A w q)
 listed-by A w q z h e =
     let both = both-fine (buildCheck A w (length z)) (pattern A q) (sym (seek-is A w q (length z) h) ∙ e) in
     let t = written z 0 (table A w) in
     walk-lists A w t q (search-checked A w t q (built-search A w z (both .0) q ∙ both .1))
 
 pub fine-listed : (A w q : List ℕ) → seekCheck A w q ≡ Fine → Listed A w q (length w) (listOf A w q)
-fine-listed A w q e = listed-by A w q (replicate {A = ℕ} 16384 0) (omega (arith, length-replicate {A = ℕ} 16384 0)) e
+fine-listed A w q e = listed-by A w q (replicate {A = ℕ} rowMost 0) (omega (arith, length-replicate {A = ℕ} rowMost 0)) e

@@ -19,12 +19,14 @@ use Rattle.patterns.specs.Pattern.{leaf}
 use Rattle.patterns.proofs.Listing.{mem-at}
 use Rattle.decimal.specs.Inside.{Printed}
 use Rattle.decimal.proofs.Writing.{printed-none, printed-more}
+use Rattle.seek_print.specs.Print.{variables}
 use Rattle.seek_print.specs.Inside.{lineMost}
 use Rattle.seek_text.specs.Seek.{lineText, joined}
-use Rattle.seek_text.specs.Pages.{linesOf, Holds, PagePrinted, Pages, Pages.done, Pages.page}
+use Rattle.seek_text.specs.Pages.{linesOf, PagePrinted, Pages, Pages.done, Pages.page}
+use Rattle.seek_text.specs.Inside.{Holds}
 use Rattle.seek_text.specs.declared.search.Response.the-variants.{Matches}
 
--- begin and end of sixteen variables
+-- begin and end of each variable
 span-length : (t : List ℕ) (i : ℕ) (q ps : List ℕ) → length (span t i q ps) ≡ 2
 unfolding span
 span-length t i [] ps = refl
@@ -40,12 +42,12 @@ unfolding spansBelow
 spans-length t zero q ps = refl
 spans-length t (suc n) q ps = rw length-append (omega (arith, spans-length t n q ps, span-length t n q ps))
 
--- the spans fill a buffer of 32 places
-pub spans-fill : (A w t q : List ℕ) (p : ℕ) (y : List ℕ) (r : Bool) (y′ : List ℕ) → length y ≡ 32 → MatchesAt A w q p → Binds A w q p y r y′ → y′ ≡ spans A w q p
+-- the spans fill a buffer that has two places for each variable
+pub spans-fill : (A w t q : List ℕ) (p : ℕ) (y : List ℕ) (r : Bool) (y′ : List ℕ) → length y ≡ variables + variables → MatchesAt A w q p → Binds A w q p y r y′ → y′ ≡ spans A w q p
 unfolding written
 spans-fill A w t q p y r y′ h m b =
     let k : r ≡ true = b .answer .1 m in
-    let l : length (spans A w q p) ≡ 32 = spans-length (table A w) 16 q _ in
+    let l : length (spans A w q p) ≡ variables + variables = spans-length (table A w) variables q _ in
     b .buffer ∙ rw (k, drop-of-length-le y {i = 0 + length (spans A w q p)} (omega arith), append-nil (spans A w q p))
 
 length-map : (f : ℕ → List ℕ) (ps : List ℕ) → length (map f ps) ≡ length ps

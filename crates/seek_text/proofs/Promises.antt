@@ -175,4 +175,4 @@ seek-one b =
     record { some = o .0; holds = o .1; only = λ x h. settled b x (o .0) h (o .1) }
 
 pub pages-whole : Pages-whole
-pages-whole b r n t y z a p = rw (pages-from (linesOf r n y) 0 z (omega arith) p) (a .prints)
+pages-whole b r n y z a p = rw (pages-from (linesOf r n y) 0 z (omega arith) p) a

@@ -1,18 +1,19 @@
 -- Inside: no public contract cites what stands in this file, and no reader has to believe it.
--- What reading an input answers, what a search of its lists finds, and what printing a match's line leaves.
-use Prim.Native.Nat.{ℕ, _+_, _≤_}
+-- What reading an input answers, what a search of its lists finds, what printing asks of the buffers, and what it leaves.
+use Prim.Native.Nat.{ℕ, _+_, _-_, _≤_}
 use mathlib.Core.Path.{_≡_}
 use mathlib.Core.List.{List, _++_}
-use lib.ListN.{length, take}
+use lib.ListN.{length, take, drop}
 use Rattle.rows.specs.Buffers.{written}
 use Rattle.rows.specs.declared.Check.the-variants as check
-use Rattle.patterns.specs.Answers.{MatchesAt}
+use Rattle.patterns.specs.Answers.{MatchesAt, Listed}
 use Rattle.patterns.specs.Searchable.{Checked}
 use Rattle.decimal.specs.Inside.{Printed}
 use Rattle.sparrowhem.specs.declared.search.Found.{Found}
 use Rattle.sparrowhem.specs.declared.search.Found.the-variants as found
-use Rattle.seek_text.specs.Seek.{inputMost, Says, Refuses, seekCheck, lineText}
-use Rattle.seek_text.specs.Pages.{Ready}
+use Rattle.seek_text.specs.Seek.{inputMost, rowMost, Says, Refuses, seekCheck, lineText}
+use Rattle.seek_text.specs.declared.search.Response.{Response}
+use Rattle.seek_text.specs.declared.search.Response.the-variants as response
 use Rattle.seek_text.specs.declared.input.Input.{Input}
 use Rattle.seek_text.specs.declared.input.Input.the-variants.{Lists, Refused}
 
@@ -38,17 +39,35 @@ abbrev pub InputRead : List ℕ → List ℕ → Input → List ℕ → Type 0
 InputRead b y (Lists a r p) y′ = ListsRead b y a r p y′
 InputRead b y (Refused f) y′ = Refuses b f
 
+-- an accepted row with its table t and an accepted pattern, whose matches are the positions ps
+pub record Ready (A w t q ps : List ℕ) : Type 0 where
+  pub checked : Checked A w t q
+  pub listed : Listed A w q (length w) ps
+
 -- k matches were found, which stand at the front of the buffer y; t begins with the row's table
 pub record MatchesFound (A w q : List ℕ) (k : ℕ) (t y : List ℕ) : Type 0 where
   pub fine : seekCheck A w q ≡ check.Fine
   pub count : k ≤ length y
-  pub few : k ≤ 16384
+  pub few : k ≤ rowMost
   pub ready : Ready A w t q (take k y)
 
 -- what a search of the row w answers, and what it leaves in the table t and the buffer y
 abbrev pub Searched : List ℕ → List ℕ → List ℕ → Found → List ℕ → List ℕ → Type 0
 Searched A w q (found.Matches k) t y = MatchesFound A w q k t y
 Searched A w q (found.Refused r) t y = seekCheck A w q ≡ check.Refused r
+
+-- the buffers hold what the lines of a response are printed from: the lists, the row's table t, and the matches
+pub record Holds (a e p k : ℕ) (n t y : List ℕ) : Type 0 where
+  pub row-after : a ≤ e
+  pub pattern-after : e ≤ p
+  pub within : p ≤ length n
+  pub count : k ≤ length y
+  pub few : k ≤ rowMost
+  pub ready : Ready (take a n) (take (e - a) (drop a n)) t (take (p - e) (drop e n)) (take k y)
+
+abbrev pub Printable : Response → List ℕ → List ℕ → List ℕ → Type 0
+Printable (response.Matches a e p k) n t y = Holds a e p k n t y
+Printable (response.Refused r) n t y = Unit {0}
 
 -- the line of a match at p was printed into the buffer b from place `at` on; r is the place behind
 pub record LinePrinted (w t q : List ℕ) (p : ℕ) (b : List ℕ) (at r : ℕ) (b′ : List ℕ) : Type 0 where

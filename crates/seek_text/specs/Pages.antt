@@ -1,11 +1,9 @@
--- The text of a response line by line, and what is written of it page by page: the contracts of `answer_input` and
--- `print_page`, which are all that the program calls.
+-- The text of a response line by line, and what is written of it page by page: what the contracts of `answer_input` and
+-- `print_page` promise to the program.
 use Prim.Native.Nat.{ℕ, _-_, _≤_, _<_}
 use mathlib.Core.Path.{_≡_}
 use mathlib.Core.List.{List, [], _∷_, _++_, map}
 use lib.ListN.{length, take, drop}
-use Rattle.patterns.specs.Answers.{Listed}
-use Rattle.patterns.specs.Searchable.{Checked}
 use Rattle.seek_print.specs.Print.{refusalText, countText}
 use Rattle.seek_text.specs.Seek.{lineText, joined, Prints}
 use Rattle.seek_text.specs.declared.search.Response.{Response}
@@ -18,28 +16,9 @@ abbrev pub linesOf : Response → List ℕ → List ℕ → List (List ℕ)
 linesOf (Matches a e p k) n y = countText k ∷ map (lineText (take a n) (take (e - a) (drop a n)) (take (p - e) (drop e n))) (take k y)
 linesOf (Refused r) n y = refusalText r ∷ []
 
--- an accepted row with its table t and an accepted pattern, whose matches are the positions ps
-pub record Ready (A w t q ps : List ℕ) : Type 0 where
-  pub checked : Checked A w t q
-  pub listed : Listed A w q (length w) ps
-
--- the buffers hold what the lines of a response are printed from: the lists, the row's table t, and the matches
-pub record Holds (a e p k : ℕ) (n t y : List ℕ) : Type 0 where
-  pub row-after : a ≤ e
-  pub pattern-after : e ≤ p
-  pub within : p ≤ length n
-  pub count : k ≤ length y
-  pub few : k ≤ 16384
-  pub ready : Ready (take a n) (take (e - a) (drop a n)) t (take (p - e) (drop e n)) (take k y)
-
-abbrev pub Printable : Response → List ℕ → List ℕ → List ℕ → Type 0
-Printable (Matches a e p k) n t y = Holds a e p k n t y
-Printable (Refused r) n t y = Unit {0}
-
--- what is answered for the input b, and left in the buffers: what `seek` prints is the lines of the response
-pub record Answered (b : List ℕ) (r : Response) (n t y : List ℕ) : Type 0 where
-  pub printable : Printable r n t y
-  pub prints : Prints b (joined (linesOf r n y))
+-- the response r to the input b, with what it left in the buffers: its lines are what `seek` prints
+abbrev pub Answered : List ℕ → Response → List ℕ → List ℕ → Type 0
+Answered b r n y = Prints b (joined (linesOf r n y))
 
 -- A page holds the lines from number `first` up to `next`, of which there is one at least, unless all are printed. Its bytes
 -- stand at the front of the buffer b.

@@ -1,9 +1,8 @@
 -- The promises on what `seek` reads and prints. Each is proved in proofs/Promises, under the same name in small letters.
-use Prim.Native.Nat.{_≤_}
+use Prim.Native.Nat.{ℕ, _≤_}
 use mathlib.Core.Path.{_≡_}
 use mathlib.Core.List.{List}
 use mathlib.Core.Logic.{_↔_}
-use Prim.Native.Nat.{ℕ}
 use lib.ListN.{length}
 use Rattle.rows.specs.declared.Refusal.{Refusal}
 use Rattle.seek_text.specs.Seek.{inputMost, Says, Refuses, Prints}
@@ -31,4 +30,4 @@ Seek-one = (b : List ℕ) → One (Prints b)
 
 -- The pages together are the text of the input: the refusal, or the count and all lines of the matches.
 abbrev pub Pages-whole : Type 0
-Pages-whole = (b : List ℕ) (r : Response) (n t y z : List ℕ) → Answered b r n t y → Pages (linesOf r n y) 0 z → Prints b z
+Pages-whole = (b : List ℕ) (r : Response) (n y z : List ℕ) → Answered b r n y → Pages (linesOf r n y) 0 z → Prints b z

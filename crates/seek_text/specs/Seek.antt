@@ -18,6 +18,10 @@ use Rattle.seek_print.specs.Print.{refusalText, countText, matchText}
 abbrev pub inputMost : ℕ
 inputMost = 65536
 
+-- the most symbols of a row
+abbrev pub rowMost : ℕ
+rowMost = 16384
+
 -- the text b is three lines: the arities A, the row w and the pattern q
 pub record Says (b A w q : List ℕ) : Type 0 where
   pub arities : Small A
@@ -43,7 +47,7 @@ pub data Refuses (b : List ℕ) : Refusal → Type 0 where
 
 -- the library's refusals that an input can meet, in their order: 1 to 5, 7 to 9, 11 to 15
 unfoldable pub seekCheck : List ℕ → List ℕ → List ℕ → Check
-seekCheck A w q = alphabet A then asRow (sized (length w) 16384) then symbols A w then pattern A q
+seekCheck A w q = alphabet A then asRow (sized (length w) rowMost) then symbols A w then pattern A q
 
 -- the line of the match at p
 abbrev pub lineText : List ℕ → List ℕ → List ℕ → ℕ → List ℕ

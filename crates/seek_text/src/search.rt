@@ -1,8 +1,9 @@
 // The search: the row's table is built, and the matches are listed.
 ghost use Prim.Native.Nat.{_-_, _≤_};
 ghost use lib.ListN.{length, take, drop};
+ghost use Rattle.seek_text.specs.Seek.{rowMost};
 ghost use Rattle.seek_text.specs.Pages.{Answered};
-ghost use Rattle.seek_text.specs.Inside.{Searched, numbersMost};
+ghost use Rattle.seek_text.specs.Inside.{Searched, Printable, numbersMost};
 use crate::input::Input;
 use crate::input::read_input;
 use sparrowhem::Check;
@@ -18,7 +19,7 @@ fn find_matches(
     table: &mut [u16],
     positions: &mut [u16],
 ) -> Found
-    requires { ⌜ (16384 ≤ length (now table)) × (16384 ≤ length (now positions)) ⌝ }
+    requires { ⌜ (rowMost ≤ length (now table)) × (rowMost ≤ length (now positions)) ⌝ }
     ensures { λ r. ⌜ Searched (now (arities .entry)) (now (row .entry)) (now (pattern .entry)) r (now (table .exit)) (now (positions .exit)) ⌝ }
 {
     match sparrowhem::build(arities, row, table) {
@@ -36,7 +37,7 @@ fn find_in(
     table: &mut [u16],
     positions: &mut [u16],
 ) -> Found
-    requires { ⌜ (a ≤ e) × (e ≤ p) × (p ≤ length (now numbers)) × (16384 ≤ length (now table)) × (16384 ≤ length (now positions)) ⌝ }
+    requires { ⌜ (a ≤ e) × (e ≤ p) × (p ≤ length (now numbers)) × (rowMost ≤ length (now table)) × (rowMost ≤ length (now positions)) ⌝ }
     ensures { λ r. ⌜ Searched (take a (now (numbers .entry))) (take (e - a) (drop a (now (numbers .entry)))) (take (p - e) (drop e (now (numbers .entry)))) r (now (table .exit)) (now (positions .exit)) ⌝ }
 {
     find_matches(
@@ -63,8 +64,8 @@ pub fn answer_input(
     table: &mut [u16],
     positions: &mut [u16],
 ) -> Response
-    requires { ⌜ (numbersMost ≤ length (now numbers)) × (16384 ≤ length (now table)) × (16384 ≤ length (now positions)) ⌝ }
-    ensures { λ r. ⌜ Answered (now (input .entry)) r (now (numbers .exit)) (now (table .exit)) (now (positions .exit)) ⌝ }
+    requires { ⌜ (numbersMost ≤ length (now numbers)) × (rowMost ≤ length (now table)) × (rowMost ≤ length (now positions)) ⌝ }
+    ensures { λ r. ⌜ Answered (now (input .entry)) r (now (numbers .exit)) (now (positions .exit)) × Printable r (now (numbers .exit)) (now (table .exit)) (now (positions .exit)) ⌝ }
 {
     match read_input(input, numbers) {
         Input::Refused(r) => Response::Refused(r),
