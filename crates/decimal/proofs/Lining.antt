@@ -15,8 +15,7 @@ use Rattle.decimal.specs.Lines.{numeral, numberMost, following, line, Sm
 use Rattle.decimal.specs.Inside.{endsNumber, Stands, HasLine, LineRead, LineRoom}
 use Rattle.decimal.specs.declared.Cursor.{Cursor}
 use Rattle.decimal.proofs.Numerals.{numeral-some}
-use Rattle.rows.proofs.Buffers.{length-written, written-nil}
-use Rattle.decimal.proofs.Writing.{written-snoc}
+use Rattle.rows.proofs.Buffers.{length-written, written-nil, written-snoc}
 use Rattle.decimal.proofs.Runs.{numeral-alone}
 use Rattle.decimal.proofs.Reading.{inside, front, begins}
 

@@ -1,8 +1,8 @@
 -- Inside: no public contract cites what stands in this file, and no reader has to believe it.
 -- How many bytes printing takes at most.
 use Prim.Native.Nat.{ℕ, _+_, _*_}
+use Rattle.rows.specs.Limits.{variables}
 use Rattle.decimal.specs.Inside.{markedMost}
-use Rattle.seek_print.specs.Print.{variables}
 
 -- the span of a variable: three marks with their numbers; and the spans of all variables
 abbrev pub spanMost : ℕ

@@ -3,14 +3,11 @@ use Prim.Native.Nat.{ℕ, zero, suc, _+_}
 use mathlib.Core.List.{List, [], _∷_, _++_}
 use lib.Dec.{eqb}
 use lib.ListN.{getD}
+use Rattle.rows.specs.Limits.{variables}
 use Rattle.rows.specs.Row.{pick}
 use Rattle.refusal_numbers.specs.Numbers.{number, place}
 use Rattle.rows.specs.declared.Refusal.{Refusal}
 use Rattle.decimal.specs.Lines.{numeral}
-
--- how many variables there are
-abbrev pub variables : ℕ
-variables = 16
 
 -- `refused N P`
 unfoldable pub refusalText : Refusal → List ℕ

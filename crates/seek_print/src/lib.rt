@@ -1,15 +1,14 @@
 // The answer of `seek` as text: a refusal, the number of the matches, and the line of a match.
 ghost use Prim.Native.Nat.{_+_, _≤_};
 ghost use lib.ListN.{length};
+ghost use Rattle.rows.specs.Limits.{variables};
 ghost use Rattle.decimal.specs.Inside.{Printed};
-ghost use Rattle.seek_print.specs.Print.{variables, refusalText, countText, spanText, spansText, matchText};
+ghost use Rattle.seek_print.specs.Print.{refusalText, countText, spanText, spansText, matchText};
 ghost use Rattle.seek_print.specs.Inside.{spanMost, spansMost, lineMost};
 use rows::Refusal;
 
 // How many variables there are.
-const VARIABLES: usize = 16;
-// The places of their spans: begin and end of each.
-pub const SPANS: usize = 2 * VARIABLES;
+const VARIABLES: usize = rows::VARIABLES as usize;
 // The most bytes of a line.
 pub const LINE_MOST: usize = 1053;
 

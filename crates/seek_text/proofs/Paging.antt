@@ -4,51 +4,36 @@ use Prim.Native.Nat.{ℕ, zero, suc, _+_, _-_, _≤_, _<_}
 use mathlib.Core.Path.{_≡_, refl, sym, ap, _∙_}
 use mathlib.Core.List.{List, [], _∷_, _++_, append-assoc, append-nil, map}
 use mathlib.Core.Logic.{_⊎_, inl, inr}
-use mathlib.Core.Bool.{Bool, true, false}
 use native.Mathlib.Numerals.{add-one}
 use native.Mathlib.Omega.{arith}
 use lib.ListN.{length, getD, take, drop, length-append, length-drop, drop-of-length-le, take-append-drop}
 use lib.Seq.{length-take-le, take-suc, getD-take, getD-drop, drop-length, drop-drop}
-use Rattle.rows.specs.Row.{pick}
-use Rattle.rows.specs.Parse.{table}
+use Rattle.rows.specs.Limits.{spanPlaces}
+use Rattle.rows.specs.Programme.{Alphabet, alphabetOf}
 use Rattle.rows.specs.Buffers.{written}
 use Rattle.rows.proofs.Buffers.{written-front}
-use Rattle.patterns.specs.Answers.{MatchesAt, isLeaf, span, spansBelow, spans}
-use Rattle.searches.specs.Searches.{Binds}
-use Rattle.patterns.specs.Pattern.{leaf}
+use Rattle.patterns.specs.Answers.{MatchesAt, spans}
+use Rattle.patterns.specs.declared.Walked.{Walked}
+use Rattle.patterns.specs.declared.Walked.the-variants.{Through, Fails}
+use Rattle.patterns.proofs.Promises.{spans-long}
+use Rattle.searches.specs.Searches.{VariablesAt}
 use Rattle.patterns.proofs.Listing.{mem-at}
 use Rattle.decimal.specs.Inside.{Printed}
 use Rattle.decimal.proofs.Writing.{printed-none, printed-more}
-use Rattle.seek_print.specs.Print.{variables}
 use Rattle.seek_print.specs.Inside.{lineMost}
 use Rattle.seek_text.specs.Seek.{lineText, joined}
 use Rattle.seek_text.specs.Pages.{linesOf, PagePrinted, Pages, Pages.done, Pages.page}
 use Rattle.seek_text.specs.Inside.{Holds}
 use Rattle.seek_text.specs.declared.search.Response.the-variants.{Matches}
 
--- begin and end of each variable
-span-length : (t : List ℕ) (i : ℕ) (q ps : List ℕ) → length (span t i q ps) ≡ 2
-unfolding span
-span-length t i [] ps = refl
-span-length t i (s ∷ q) [] = refl
-span-length t i (s ∷ q) (p ∷ ps) = go (isLeaf i (leaf s)) (span-length t i q ps)
-  where
-    go : (b : Bool) → length (span t i q ps) ≡ 2 → length (pick b (p ∷ getD t p 0 ∷ []) (span t i q ps)) ≡ 2
-    go true h = refl
-    go false h = h
-
-spans-length : (t : List ℕ) (n : ℕ) (q ps : List ℕ) → length (spansBelow t n q ps) ≡ n + n
-unfolding spansBelow
-spans-length t zero q ps = refl
-spans-length t (suc n) q ps = rw length-append (omega (arith, spans-length t n q ps, span-length t n q ps))
-
--- the spans fill a buffer that has two places for each variable
-pub spans-fill : (A w t q : List ℕ) (p : ℕ) (y : List ℕ) (r : Bool) (y′ : List ℕ) → length y ≡ variables + variables → MatchesAt A w q p → Binds A w q p y r y′ → y′ ≡ spans A w q p
+-- at a match the spans fill a buffer that has begin and end of each variable
+pub spans-fill : (a : Alphabet) (w q : List ℕ) (p : ℕ) (y : List ℕ) (r : Walked) (y′ : List ℕ) → length y ≡ spanPlaces → MatchesAt a w q p → VariablesAt a w q p y r y′
+    → y′ ≡ spans (a .arities) w q p
 unfolding written
-spans-fill A w t q p y r y′ h m b =
-    let k : r ≡ true = b .answer .1 m in
-    let l : length (spans A w q p) ≡ variables + variables = spans-length (table A w) variables q _ in
-    b .buffer ∙ rw (k, drop-of-length-le y {i = 0 + length (spans A w q p)} (omega arith), append-nil (spans A w q p))
+spans-fill a w q p y Through y′ h m b =
+    let s = spans (a .arities) w q p in
+    b .buffer ∙ rw (drop-of-length-le y {i = 0 + length s} (omega (arith, spans-long (a .arities) w q p)), append-nil s)
+spans-fill a w q p y (Fails k j) y′ h m b = absurd (b .answer .0 m)
 
 length-map : (f : ℕ → List ℕ) (ps : List ℕ) → length (map f ps) ≡ length ps
 length-map f [] = refl
@@ -67,7 +52,7 @@ module _ (a e p k : ℕ) (n t y : List ℕ) (h : Holds a e p k n t y) where
   -- a line that is not the first is a match's: its position stands in the buffer, and the pattern matches there
   pub record Located (i : ℕ) : Type 0 where
     pub within : getD y (i - 1) 0 < length (take (e - a) (drop a n))
-    pub matches : MatchesAt (take a n) (take (e - a) (drop a n)) (take (p - e) (drop e n)) (getD y (i - 1) 0)
+    pub matches : MatchesAt (alphabetOf (take a n)) (take (e - a) (drop a n)) (take (p - e) (drop e n)) (getD y (i - 1) 0)
     pub line : getD (linesOf (Matches a e p k) n y) i [] ≡ lineText (take a n) (take (e - a) (drop a n)) (take (p - e) (drop e n)) (getD y (i - 1) 0)
 
   pub located : (i : ℕ) → 0 < i → i ≤ k → Located i

@@ -9,8 +9,10 @@ use native.Mathlib.Omega.{arith}
 use lib.Dec.{leb}
 use lib.ListN.{length}
 use borrow.Author.Tests.{leb-true, leb-false}
+use Rattle.rows.specs.Programme.{alphabetOf}
 use Rattle.rows.specs.declared.Refusal.{Refusal}
-use Rattle.rows.specs.declared.Refusal.the-variants.{InputLong, Line}
+use Rattle.rows.specs.declared.Refusal.the-variants.{Input}
+use Rattle.rows.specs.declared.Text.the-variants.{Line, Bytes}
 use Rattle.rows.specs.declared.Check.{Check}
 use Rattle.rows.specs.declared.Check.the-variants.{Fine, Refused}
 use Rattle.patterns.specs.Answers.{Listed}
@@ -109,11 +111,11 @@ taken b = go (leb (length b) inputMost) refl
   where
     short : length b ≤ inputMost → Lists b ⊎ Fault 3 1 b → Taken b
     short h (inl l) = inl (h, l)
-    short h (inr k) = inr (Line (k .at), faulty h (k .fault))
+    short h (inr k) = inr (Input (Line (k .at)), faulty h (k .fault))
 
     go : (t : Bool) → leb (length b) inputMost ≡ t → Taken b
     go true e = short (leb-true _ _ e) (says-or-faulty b)
-    go false e = inr (InputLong, long (leb-false _ _ e))
+    go false e = inr (Input Bytes, long (leb-false _ _ e))
 
 pub input-accepted : Input-accepted
 input-accepted b = (λ h. accepted h (taken b), λ h r f. says-short (h .1 .3) (h .0) f)
@@ -126,7 +128,7 @@ one-refusal : {b : List ℕ} {r s : Refusal} → Refuses b r → Refuses b s →
 one-refusal (long h) (long g) = refl
 one-refusal (long h) (faulty g f) = absurd (omega arith)
 one-refusal (faulty h f) (long g) = absurd (omega arith)
-one-refusal (faulty h f) (faulty g e) = ap Line (one-fault 3 1 _ f e)
+one-refusal (faulty h f) (faulty g e) = ap (λ k. Input (Line k)) (one-fault 3 1 _ f e)
 
 refused-once : (A w q A′ w′ q′ : List ℕ) (r r′ : Refusal) → A ≡ A′ → w ≡ w′ → q ≡ q′
     → seekCheck A w q ≡ Refused r → seekCheck A′ w′ q′ ≡ Refused r′ → r ≡ r′
@@ -153,8 +155,8 @@ settled b o o′ (lists-searched A w q ps h s e l) (lists-refused A′ w′ q′
     absurd (never-both A′ w′ q′ A w q _ (t .0) (t .1) (t .2) e′ e)
 settled b o o′ (lists-searched A w q ps h s e l) (lists-searched A′ w′ q′ ps′ h′ s′ e′ l′) =
     let t = text-says b A w q A′ w′ q′ s s′ in
-    let m : Listed A w q (length w) ps′ = rw (t .0, t .1, t .2) l′ in
-    let p : ps ≡ ps′ = listed-once A w q (length w) ps ps′ l m in
+    let m : Listed (alphabetOf A) w q (length w) ps′ = rw (t .0, t .1, t .2) l′ in
+    let p : ps ≡ ps′ = listed-once (alphabetOf A) w q (length w) ps ps′ l m in
     rw (t .0, t .1, t .2, p)
 
 -- some text is printed
@@ -162,7 +164,7 @@ printed : (b : List ℕ) → (o : List ℕ) × Prints b o
 printed b = go (taken b)
   where
     searched : (A w q : List ℕ) → length b ≤ inputMost → Says b A w q → (c : Check) → seekCheck A w q ≡ c → (o : List ℕ) × Prints b o
-    searched A w q h s Fine e = (countText (length (listOf A w q)) ++ joined (map (lineText A w q) (listOf A w q)), lists-searched A w q (listOf A w q) h s e (fine-listed A w q e))
+    searched A w q h s Fine e = (countText (length (listOf (alphabetOf A) w q)) ++ joined (map (lineText A w q) (listOf (alphabetOf A) w q)), lists-searched A w q (listOf (alphabetOf A) w q) h s e (fine-listed A w q e))
     searched A w q h s (Refused r) e = (refusalText r, lists-refused A w q h s e)
 
     go : Taken b → (o : List ℕ) × Prints b o

@@ -4,6 +4,8 @@ use Prim.Native.Nat.{ℕ, _+_, _-_, _≤_}
 use mathlib.Core.Path.{_≡_}
 use mathlib.Core.List.{List, _++_}
 use lib.ListN.{length, take, drop}
+use Rattle.rows.specs.Limits.{rowMost}
+use Rattle.rows.specs.Programme.{Alphabet, alphabetOf, programme}
 use Rattle.rows.specs.Buffers.{written}
 use Rattle.rows.specs.declared.Check.the-variants as check
 use Rattle.patterns.specs.Answers.{MatchesAt, Listed}
@@ -11,7 +13,7 @@ use Rattle.patterns.specs.Searchable.{Checked}
 use Rattle.decimal.specs.Inside.{Printed}
 use Rattle.sparrowhem.specs.declared.search.Found.{Found}
 use Rattle.sparrowhem.specs.declared.search.Found.the-variants as found
-use Rattle.seek_text.specs.Seek.{inputMost, rowMost, Says, Refuses, seekCheck, lineText}
+use Rattle.seek_text.specs.Seek.{inputMost, Says, Refuses, seekCheck, lineText}
 use Rattle.seek_text.specs.declared.search.Response.{Response}
 use Rattle.seek_text.specs.declared.search.Response.the-variants as response
 use Rattle.seek_text.specs.declared.input.Input.{Input}
@@ -41,8 +43,8 @@ InputRead b y (Refused f) y′ = Refuses b f
 
 -- an accepted row with its table t and an accepted pattern, whose matches are the positions ps
 pub record Ready (A w t q ps : List ℕ) : Type 0 where
-  pub checked : Checked A w t q
-  pub listed : Listed A w q (length w) ps
+  pub checked : Checked (alphabetOf A) (programme w t) q
+  pub listed : Listed (alphabetOf A) w q (length w) ps
 
 -- k matches were found, which stand at the front of the buffer y; t begins with the row's table
 pub record MatchesFound (A w q : List ℕ) (k : ℕ) (t y : List ℕ) : Type 0 where
@@ -72,4 +74,4 @@ Printable (response.Refused r) n t y = Unit {0}
 -- the line of a match at p was printed into the buffer b from place `at` on; r is the place behind
 pub record LinePrinted (w t q : List ℕ) (p : ℕ) (b : List ℕ) (at r : ℕ) (b′ : List ℕ) : Type 0 where
   pub within : r ≤ length b
-  pub text : (A : List ℕ) → Checked A w t q → MatchesAt A w q p → Printed b at (lineText A w q p) r b′
+  pub text : (a : Alphabet) → Checked a (programme w t) q → MatchesAt a w q p → Printed b at (lineText (a .arities) w q p) r b′

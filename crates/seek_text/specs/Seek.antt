@@ -3,11 +3,14 @@ use Prim.Native.Nat.{ℕ, zero, suc, _+_, _≤_, _<_}
 use mathlib.Core.Path.{_≡_}
 use mathlib.Core.List.{List, [], _∷_, _++_, map}
 use lib.ListN.{length, getD}
+use Rattle.rows.specs.Limits.{rowMost}
+use Rattle.rows.specs.Programme.{alphabetOf}
 use Rattle.rows.specs.Row.{sized}
 use Rattle.rows.specs.Parse.{table}
-use Rattle.rows.specs.Refusals.{_then_, asRow, alphabet, symbols, pattern}
+use Rattle.rows.specs.Refusals.{_then_, asKept, alphabet, symbols, pattern}
 use Rattle.rows.specs.declared.Refusal.{Refusal}
-use Rattle.rows.specs.declared.Refusal.the-variants.{InputLong, Line}
+use Rattle.rows.specs.declared.Refusal.the-variants.{Row, Input}
+use Rattle.rows.specs.declared.Text.the-variants.{Line, Bytes}
 use Rattle.rows.specs.declared.Check.{Check}
 use Rattle.rows.specs.declared.Check.the-variants.{Fine, Refused}
 use Rattle.patterns.specs.Answers.{Listed, spans}
@@ -17,10 +20,6 @@ use Rattle.seek_print.specs.Print.{refusalText, countText, matchText}
 -- the most bytes of an input
 abbrev pub inputMost : ℕ
 inputMost = 65536
-
--- the most symbols of a row
-abbrev pub rowMost : ℕ
-rowMost = 16384
 
 -- the text b is three lines: the arities A, the row w and the pattern q
 pub record Says (b A w q : List ℕ) : Type 0 where
@@ -42,12 +41,12 @@ pub data Faulty : ℕ → ℕ → List ℕ → ℕ → Type 0 where
 
 -- what the program refuses by itself: 61, too many bytes; then 60, a faulty, missing or fourth line
 pub data Refuses (b : List ℕ) : Refusal → Type 0 where
-  long : inputMost < length b → Refuses b InputLong
-  faulty : {k : ℕ} → length b ≤ inputMost → Faulty 3 1 b k → Refuses b (Line k)
+  long : inputMost < length b → Refuses b (Input Bytes)
+  faulty : {k : ℕ} → length b ≤ inputMost → Faulty 3 1 b k → Refuses b (Input (Line k))
 
 -- the library's refusals that an input can meet, in their order: 1 to 5, 7 to 9, 11 to 15
 unfoldable pub seekCheck : List ℕ → List ℕ → List ℕ → Check
-seekCheck A w q = alphabet A then asRow (sized (length w) rowMost) then symbols A w then pattern A q
+seekCheck A w q = alphabet (alphabetOf A) then asKept Row (sized (length w) rowMost) then symbols Row A w then pattern A q
 
 -- the line of the match at p
 abbrev pub lineText : List ℕ → List ℕ → List ℕ → ℕ → List ℕ
@@ -63,5 +62,5 @@ joined (l ∷ ls) = l ++ joined ls
 pub data Prints (b : List ℕ) : List ℕ → Type 0 where
   input-refused : {r : Refusal} → Refuses b r → Prints b (refusalText r)
   lists-refused : (A w q : List ℕ) {r : Refusal} → length b ≤ inputMost → Says b A w q → seekCheck A w q ≡ Refused r → Prints b (refusalText r)
-  lists-searched : (A w q ps : List ℕ) → length b ≤ inputMost → Says b A w q → seekCheck A w q ≡ Fine → Listed A w q (length w) ps
+  lists-searched : (A w q ps : List ℕ) → length b ≤ inputMost → Says b A w q → seekCheck A w q ≡ Fine → Listed (alphabetOf A) w q (length w) ps
       → Prints b (countText (length ps) ++ joined (map (lineText A w q) ps))

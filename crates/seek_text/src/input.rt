@@ -6,6 +6,7 @@ use decimal::Cursor;
 use decimal::Line;
 use decimal::read_line;
 use rows::Refusal;
+use rows::Text;
 
 // The most bytes of an input, and room for its numbers: each takes two bytes.
 pub const INPUT_MOST: usize = 65536;
@@ -25,18 +26,18 @@ pub fn read_input(input: &[u8], numbers: &mut [u16]) -> Input
     ensures { λ r. ⌜ InputRead (now (input .entry)) (now (numbers .entry)) r (now (numbers .exit)) ⌝ }
 {
     if INPUT_MOST < input.len() {
-        return Input::Refused(Refusal::InputLong);
+        return Input::Refused(Refusal::Input(Text::Bytes));
     }
     match read_line(input, Cursor { at: 0, line: 1 }, numbers, 0) {
-        Line::Faulty(k) => Input::Refused(Refusal::Line(k)),
+        Line::Faulty(k) => Input::Refused(Refusal::Input(Text::Line(k))),
         Line::Numbers(arities, second) => match read_line(input, second, numbers, arities) {
-            Line::Faulty(k) => Input::Refused(Refusal::Line(k)),
+            Line::Faulty(k) => Input::Refused(Refusal::Input(Text::Line(k))),
             Line::Numbers(row, third) => match read_line(input, third, numbers, row) {
-                Line::Faulty(k) => Input::Refused(Refusal::Line(k)),
+                Line::Faulty(k) => Input::Refused(Refusal::Input(Text::Line(k))),
                 Line::Numbers(pattern, fourth) => {
                     // Nothing may follow the third line.
                     if fourth.at < input.len() {
-                        return Input::Refused(Refusal::Line(fourth.line));
+                        return Input::Refused(Refusal::Input(Text::Line(fourth.line)));
                     }
                     Input::Lists(arities, row, pattern)
                 }

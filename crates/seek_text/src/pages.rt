@@ -3,6 +3,7 @@ ghost use mathlib.Core.Path.{_≡_};
 ghost use mathlib.Core.List.{List, []};
 ghost use Prim.Native.Nat.{ℕ, _+_, _≤_, _<_};
 ghost use lib.ListN.{length, getD};
+ghost use Rattle.rows.specs.Programme.{programme};
 ghost use Rattle.patterns.specs.Searchable.{Searchable};
 ghost use Rattle.decimal.specs.Inside.{Printed};
 ghost use Rattle.seek_print.specs.Inside.{lineMost};
@@ -10,7 +11,6 @@ ghost use Rattle.seek_text.specs.Pages.{linesOf, PagePrinted};
 ghost use Rattle.seek_text.specs.Inside.{Holds, Printable, LinePrinted};
 use crate::search::Response;
 use seek_print::LINE_MOST;
-use seek_print::SPANS;
 use seek_print::put_count;
 use seek_print::put_match;
 use seek_print::put_refusal;
@@ -24,11 +24,11 @@ fn put_found(
     out: &mut [u8],
     at: usize,
 ) -> usize
-    requires { ⌜ Searchable (now row) (now table) (now pattern) × (p < length (now row)) × (at + lineMost ≤ length (now out)) ⌝ }
+    requires { ⌜ Searchable (programme (now row) (now table)) (now pattern) × (p < length (now row)) × (at + lineMost ≤ length (now out)) ⌝ }
     ensures { λ r. ⌜ LinePrinted (now (row .entry)) (now (table .entry)) (now (pattern .entry)) p (now (out .entry)) at r (now (out .exit)) ⌝ }
 {
     let position = p as usize;
-    let mut spans = [0u16; SPANS];
+    let mut spans = [0u16; rows::SPAN_PLACES];
     searches::variables_at(row, table, pattern, position, &mut spans);
     put_match(out, at, p, table[position], &spans)
 }

@@ -1,7 +1,7 @@
 // The search: the row's table is built, and the matches are listed.
 ghost use Prim.Native.Nat.{_-_, _≤_};
 ghost use lib.ListN.{length, take, drop};
-ghost use Rattle.seek_text.specs.Seek.{rowMost};
+ghost use Rattle.rows.specs.Limits.{rowMost};
 ghost use Rattle.seek_text.specs.Pages.{Answered};
 ghost use Rattle.seek_text.specs.Inside.{Searched, Printable, numbersMost};
 use crate::input::Input;

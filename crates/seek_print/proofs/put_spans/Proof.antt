@@ -5,9 +5,10 @@ use mathlib.Core.Path.{_≡_, refl}
 use native.Mathlib.Numerals.{add-one}
 use native.Mathlib.Omega.{arith}
 use lib.ListN.{length}
+use Rattle.rows.specs.Limits.{variables}
 use Rattle.decimal.specs.Inside.{Printed}
 use Rattle.decimal.proofs.Writing.{printed-none, printed-more}
-use Rattle.seek_print.specs.Print.{variables, spansText}
+use Rattle.seek_print.specs.Print.{spansText}
 use Rattle.seek_print.specs.Inside.{spanMost}
 use borrow.Author.Needs.{needs}
 use Rattle.seek_print.proofs.put_spans.Statement.{statement}

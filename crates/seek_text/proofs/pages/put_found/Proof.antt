@@ -37,9 +37,9 @@ returns c =
     let q = a .pattern .now in
     record {
       within = omega (arith, c .before .before .before .before .before .before .before .before .before .before .before .before .before .pre .2, c .before .before .put-match .ensures .1);
-      text = λ A k m.
-          (let s = spans-fill A w t q (a .p) _ _ _ refl m (c .before .before .before .before .before .before .before .variables-at .ensures A k) in
-          let e = right-entry A w t (k .row) (a .p) (c .before .before .before .before .before .before .before .before .before .before .before .before .before .pre .1) in
+      text = λ x k m.
+          (let s = spans-fill x w q (a .p) _ _ _ refl m (c .before .before .before .before .before .before .before .variables-at .ensures x k) in
+          let e = right-entry (x .arities) w t (k .row) (a .p) (c .before .before .before .before .before .before .before .before .before .before .before .before .before .pre .1) in
           rw (s, e) at (c .before .before .put-match .ensures .0));
     }
 

@@ -2,6 +2,7 @@
 -- Assumes nothing.
 use native.Mathlib.Omega.{arith}
 use lib.ListN.{take}
+use Rattle.rows.specs.Programme.{alphabetOf}
 use Rattle.seek_text.proofs.Paging.{located}
 use borrow.Author.Needs.{needs}
 use Rattle.seek_text.proofs.pages.put_numbered.Statement.{statement}
@@ -56,7 +57,7 @@ put-found-requires c κs =
     let s = c .before .before .before .before .before .before .before .before .before .args in
     let h = c .before .before .before .before .before .before .before .before .before .pre in
     let l = located (s .a) (s .e) (s .p) (s .count) (s .numbers .now) (s .table .now) (s .positions .now) (h .0) (s .i) (omega (arith, c .before .before .before .before .if1 .left)) (h .1) in
-    ((take (s .a) (s .numbers .now), h .0 .ready .checked), l .within, h .2)
+    ((alphabetOf (take (s .a) (s .numbers .now)), h .0 .ready .checked), l .within, h .2)
 
 same-length-2 : tie.Need-same-length-2
 same-length-2 c = search needs
@@ -67,7 +68,7 @@ returns-2 c =
     let h = c .before .before .before .before .before .before .before .before .before .before .before .before .pre in
     let l = located (s .a) (s .e) (s .p) (s .count) (s .numbers .now) (s .table .now) (s .positions .now) (h .0) (s .i) (omega (arith, c .before .before .before .before .before .before .before .if1 .left)) (h .1) in
     let x = c .before .before .put-found .ensures in
-    (rw (l .line) (x .text (take (s .a) (s .numbers .now)) (h .0 .ready .checked) (l .matches)), x .within)
+    (rw (l .line) (x .text (alphabetOf (take (s .a) (s .numbers .now))) (h .0 .ready .checked) (l .matches)), x .within)
 
 pub put-numbered-spec : {M : Type 1} → statement M
 put-numbered-spec =
