@@ -10,7 +10,7 @@ use lib.Dec.{ltb}
 use lib.ListN.{length, drop, take, replicate, length-replicate}
 use lib.Seq.{take-length}
 use Rattle.rows.specs.Limits.{rowMost}
-use Rattle.rows.specs.Programme.{Alphabet, Programme, alphabetOf, programme, room}
+use Rattle.rows.specs.Programme.{alphabetOf, programme, room}
 use Rattle.rows.specs.Row.{pick, sized}
 use Rattle.rows.specs.Parse.{table}
 use Rattle.rows.specs.Buffers.{written}

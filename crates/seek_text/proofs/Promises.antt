@@ -24,7 +24,7 @@ use Rattle.decimal.proofs.Deciding.{Lined, line?}
 use Rattle.seek_print.specs.Print.{refusalText, countText}
 use Rattle.seek_text.specs.Seek.{inputMost, Says, Faulty, Faulty.here, Faulty.later, Faulty.extra, Refuses, Refuses.long, Refuses.faulty, seekCheck, lineText, joined, Prints, Prints.input-refused, Prints.lists-refused, Prints.lists-searched}
 use Rattle.seek_text.specs.Pages.{linesOf}
-use Rattle.seek_text.specs.Promises.{Text-says, Input-accepted, One, Seek-one, Pages-whole}
+use Rattle.seek_text.specs.Promises.{Text-says, Input-accepted, Seek-one, Pages-whole}
 use Rattle.seek_text.proofs.Finding.{fine-listed}
 use Rattle.seek_text.proofs.Paging.{pages-from}
 
