@@ -3,4 +3,5 @@ pub mod Writing
 pub mod Runs
 pub mod Reading
 pub mod Lining
+pub mod Deciding
 pub mod Promises

@@ -11,12 +11,11 @@ use lib.ListN.{length, getD, drop, set, length-append, length-drop, length-set}
 use lib.Seq.{drop-drop, drop-at}
 use borrow.Author.Tests.{eqb-true}
 use Rattle.rows.specs.Buffers.{written}
-use Rattle.decimal.specs.Numeral.{numeral}
-use Rattle.decimal.specs.Lines.{following, line, Small, endsNumber, Stands, HasLine, LineRead, Room}
+use Rattle.decimal.specs.Lines.{numeral, numberMost, following, line, Small}
+use Rattle.decimal.specs.Inside.{endsNumber, Stands, HasLine, LineRead, LineRoom}
 use Rattle.decimal.specs.declared.Cursor.{Cursor}
 use Rattle.decimal.proofs.Numerals.{numeral-some}
-use Rattle.rows.proofs.Buffers.{length-written, written-nil}
-use Rattle.decimal.proofs.Writing.{written-snoc}
+use Rattle.rows.proofs.Buffers.{length-written, written-nil, written-snoc}
 use Rattle.decimal.proofs.Runs.{numeral-alone}
 use Rattle.decimal.proofs.Reading.{inside, front, begins}
 
@@ -36,14 +35,14 @@ line-snoc [] n = refl
 line-snoc (m ∷ []) n = rw append-assoc
 line-snoc (m ∷ k ∷ ns) n = rw append-assoc (ap (λ l. numeral m ++ (32 ∷ l)) (line-snoc (k ∷ ns) n))
 
-small-snoc : (ns : List ℕ) (n : ℕ) → Small ns → n ≤ 65535 → Small (ns ++ (n ∷ []))
+small-snoc : (ns : List ℕ) (n : ℕ) → Small ns → n ≤ numberMost → Small (ns ++ (n ∷ []))
 unfolding Small
 small-snoc [] n h k = (k, tt)
 small-snoc (m ∷ ns) n h k = (h .0, small-snoc ns n (h .1) k)
 
 -- no number begins the text y
 abbrev NoNumber : List ℕ → Type 0
-NoNumber y = (n s : ℕ) (x : List ℕ) → n ≤ 65535 → endsNumber s ≡ true → y ≡ numeral n ++ (s ∷ x) → ⊥
+NoNumber y = (n s : ℕ) (x : List ℕ) → n ≤ numberMost → endsNumber s ≡ true → y ≡ numeral n ++ (s ∷ x) → ⊥
 
 no-numbers : (ns : List ℕ) (m : ℕ) (ms y z : List ℕ) → Small (m ∷ ms) → NoNumber y → numeral m ++ (following ms ++ z) ≡ spaced ns ++ y → ⊥
 unfolding spaced following Small
@@ -110,7 +109,7 @@ pub record Sofar (b y : List ℕ) (start first : ℕ) (y′ : List ℕ) (at coun
   pub taken : count + count ≤ at
   pub behind : start ≤ at
 
-pub sofar-none : (b : List ℕ) (c : Cursor) (y : List ℕ) (i : ℕ) → Room b c y i → Sofar b y (c .at) i y (c .at) i
+pub sofar-none : (b : List ℕ) (c : Cursor) (y : List ℕ) (i : ℕ) → LineRoom b c y i → Sofar b y (c .at) i y (c .at) i
 unfolding spaced Small
 sofar-none b c y i r =
     record {
@@ -209,8 +208,8 @@ module _ (b : List ℕ) (at : ℕ) where
       }
 
 -- room for the next line's numbers
-pub room-next : {b : List ℕ} {c : Cursor} {y : List ℕ} {i k : ℕ} {d : Cursor} {y′ : List ℕ} → Room b c y i → LineRead b c y i k d y′
-    → Room b d y′ k × (k ≤ length y) × (length y′ ≡ length y)
+pub room-next : {b : List ℕ} {c : Cursor} {y : List ℕ} {i k : ℕ} {d : Cursor} {y′ : List ℕ} → LineRoom b c y i → LineRead b c y i k d y′
+    → LineRoom b d y′ k × (k ≤ length y) × (length y′ ≡ length y)
 room-next {b} {c} {y} {i} {k} {d} {y′} r l =
     let e = line-end b (c .at) (l .numbers) (d .at) (l .stands) in
     let m = line-long (l .numbers) in

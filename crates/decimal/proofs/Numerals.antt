@@ -8,8 +8,8 @@ use native.Mathlib.Omega.{arith}
 use lib.Dec.{ltb}
 use lib.ListN.{length, getD, length-append, List·getD-append}
 use borrow.Author.Tests.{lt-ltb, le-ltb, le-leb, ltb-true, ltb-false, leb-true}
-use Rattle.decimal.specs.Numeral.{isDigit, spelled, numeral}
-use Rattle.decimal.specs.Promises.{Digits, value}
+use Rattle.decimal.specs.Lines.{spelled, numeral}
+use Rattle.decimal.specs.Promises.{isDigit, Digits, value}
 
 pub digit-is : (d : ℕ) → 48 ≤ d → d ≤ 57 → isDigit d ≡ true
 digit-is d lo hi = rw (le-ltb d 48 lo, le-leb d 57 hi)

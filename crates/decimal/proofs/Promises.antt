@@ -8,9 +8,8 @@ use native.Mathlib.Omega.{arith}
 use lib.Dec.{eqb}
 use lib.ListN.{length, getD}
 use borrow.Author.Tests.{eqb-true, eqb-false}
-use Rattle.decimal.specs.Numeral.{isDigit, numeral}
-use Rattle.decimal.specs.Lines.{following, line}
-use Rattle.decimal.specs.Promises.{Digits, value, Spells, Numeral-spells, One-line}
+use Rattle.decimal.specs.Lines.{numeral, following, line}
+use Rattle.decimal.specs.Promises.{isDigit, Digits, value, Decimal, Numeral-decimal, One-line}
 use Rattle.decimal.proofs.Numerals.{numeral-one, numeral-grows, numeral-some, numeral-digits, numeral-value, numeral-head, digit-bounds}
 use Rattle.decimal.proofs.Runs.{numeral-alone}
 
@@ -22,7 +21,7 @@ numeral-on m (x ∷ w) h d =
     let k = digit-bounds x (d .0) in
     numeral-on (m * 10 + (x - 48)) w (omega arith) (d .1) ∙ rw (numeral-grows m x h (k .0) (k .1), append-assoc)
 
-only : (w : List ℕ) (n : ℕ) → Spells w n → w ≡ numeral n
+only : (w : List ℕ) (n : ℕ) → Decimal w n → w ≡ numeral n
 unfolding Digits value
 only [] n s = absurd (omega (arith, s .some))
 only (d ∷ w) n s = go (eqb d 48) refl
@@ -58,11 +57,11 @@ plain : (n : ℕ) → getD (numeral n) 0 0 ≡ 48 → length (numeral n) ≡ 1
 plain zero h = ap length (numeral-one 0 (omega arith))
 plain (suc n) h = absurd (omega (arith, numeral-head (suc n) (omega arith)))
 
-spells : (n : ℕ) → Spells (numeral n) n
+spells : (n : ℕ) → Decimal (numeral n) n
 spells n = record { some = numeral-some n; digits = numeral-digits n; plain = plain n; makes = numeral-value n }
 
-pub numeral-spells : Numeral-spells
-numeral-spells w n = (only w n, λ e. rw e (spells n))
+pub numeral-decimal : Numeral-decimal
+numeral-decimal w n = (only w n, λ e. rw e (spells n))
 
 -- what comes after a number begins with no digit
 record Opens (w : List ℕ) : Type 0 where

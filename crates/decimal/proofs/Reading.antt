@@ -13,9 +13,9 @@ use lib.ListN.{length, getD, drop, List·getD-eq-default}
 use lib.Seq.{drop-cons, getD-drop}
 use borrow.Author.Tests.{leb-true, leb-false}
 use Rattle.rows.specs.Row.{pick}
-use Rattle.decimal.specs.Numeral.{isDigit, numeral}
-use Rattle.decimal.specs.Lines.{endsNumber, Stands, NumberAt}
-use Rattle.decimal.specs.Promises.{Digits, value}
+use Rattle.decimal.specs.Lines.{numeral, numberMost}
+use Rattle.decimal.specs.Promises.{isDigit, Digits, value}
+use Rattle.decimal.specs.Inside.{endsNumber, Stands, NumberAt}
 use Rattle.decimal.specs.declared.Number.{Number}
 use Rattle.decimal.specs.declared.Number.the-variants as number
 use Rattle.decimal.proofs.Numerals.{numeral-digits, numeral-value, numeral-head, numeral-some, numeral-one, numeral-grows, value-append, value-grows, digit-bounds}
@@ -55,7 +55,7 @@ module _ (b : List ℕ) (start : ℕ) where
       run (numeral m) (numeral n) (getD b end 0) (drop (end + 1) b) y (numeral-digits m) (numeral-digits n) (ends-no-digit (getD b end 0) (s .ended))
       (ap (λ l. numeral m ++ l) (sym (begins b end h)) ∙ sym (s .text) ∙ e)
 
-  pub none-larger : (n m end : ℕ) (y : List ℕ) → drop start b ≡ numeral n ++ y → 65535 < n → Stands b start m end → ⊥
+  pub none-larger : (n m end : ℕ) (y : List ℕ) → drop start b ≡ numeral n ++ y → numberMost < n → Stands b start m end → ⊥
   none-larger n m end y e h s =
       let r = reach n m end y e s in
       let v : m ≡ value n (r .more) = sym (numeral-value m) ∙ ap (value 0) (r .word) ∙ value-append 0 (numeral n) (r .more) ∙ ap (λ k. value k (r .more)) (numeral-value n) in
@@ -93,7 +93,7 @@ module _ (b : List ℕ) (start : ℕ) where
       go (x ∷ w) k d e = never (isDigit x) (d .0) (ap isDigit (sym (front b start _ _ e)) ∙ h)
 
   -- what `ended` answers for the digits that were read
-  pub ended-is : (at line n : ℕ) (r : Number) → n ≤ 65535 → drop start b ≡ numeral n ++ drop at b → Last b n at
+  pub ended-is : (at line n : ℕ) (r : Number) → n ≤ numberMost → drop start b ≡ numeral n ++ drop at b → Last b n at
       → r ≡ pick (endsNumber (getD b at 0)) (number.Value n (record { at = at; line = line })) (number.Faulty line)
       → NumberAt b (record { at = start; line = line }) r
   ended-is at line n r h e last q = go (endsNumber (getD b at 0)) refl q

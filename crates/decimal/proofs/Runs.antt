@@ -7,9 +7,9 @@ use mathlib.Core.Bool.{Bool, true, false}
 use native.Mathlib.Omega.{arith}
 use lib.Dec.{eqb}
 use borrow.Author.Tests.{eqb-true}
-use Rattle.decimal.specs.Numeral.{isDigit, numeral}
-use Rattle.decimal.specs.Lines.{endsNumber}
-use Rattle.decimal.specs.Promises.{Digits, value}
+use Rattle.decimal.specs.Lines.{numeral}
+use Rattle.decimal.specs.Promises.{isDigit, Digits, value}
+use Rattle.decimal.specs.Inside.{endsNumber}
 use Rattle.decimal.proofs.Numerals.{numeral-digits, numeral-value}
 
 -- the digits w, which end before s, begin with the digits u

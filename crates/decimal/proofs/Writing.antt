@@ -9,8 +9,8 @@ use native.Mathlib.Omega.{arith}
 use lib.ListN.{length, take, drop, set, length-append}
 use lib.Seq.{length-take-le, take-at, set-split, drop-append-add, drop-drop}
 use Rattle.rows.specs.Buffers.{written}
-use Rattle.rows.proofs.Buffers.{length-written, written-nil}
-use Rattle.decimal.specs.Printed.{Printed}
+use Rattle.rows.proofs.Buffers.{written-nil}
+use Rattle.decimal.specs.Inside.{Printed}
 
 pub written-byte : (b : List ℕ) (at x : ℕ) → at < length b → set b at x ≡ written b at (x ∷ [])
 unfolding written
@@ -26,13 +26,6 @@ written-append b at u v h =
     let t : (take at b ++ u) ++ (v ++ drop (at + (length u + length v)) b) ≡ take at b ++ ((u ++ v) ++ drop (at + (length u + length v)) b)
     = append-assoc (take at b) u (v ++ drop (at + (length u + length v)) b) ∙ rw (append-assoc u v (drop (at + (length u + length v)) b)) in
     rw (s, take-at (take at b ++ u) (drop (at + length u) b) (at + length u) n, ← n, drop-append-add (take at b ++ u) (drop (length (take at b ++ u)) b) (length v), n, drop-drop (length v) (at + length u) b, length-append u v, add-assoc at (length u) (length v)) t
-
--- one number more
-pub written-snoc : (b : List ℕ) (at : ℕ) (v : List ℕ) (x : ℕ) → at + length v < length b
-    → set (written b at v) (at + length v) x ≡ written b at (v ++ (x ∷ []))
-written-snoc b at v x h =
-    let l = length-written b at v (omega arith) in
-    written-byte (written b at v) (at + length v) x (omega arith) ∙ written-append b at v (x ∷ []) (omega arith)
 
 -- nothing was printed yet
 pub printed-none : (b : List ℕ) (at : ℕ) → Printed b at [] at b

@@ -1,4 +1,3 @@
-pub mod Numeral
 pub mod Lines
-pub mod Printed
+pub mod Inside
 pub mod Promises

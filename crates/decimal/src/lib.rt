@@ -4,9 +4,12 @@ ghost use mathlib.Core.List.{[], _∷_, _++_};
 ghost use Prim.Native.Nat.{ℕ, _+_, _≤_, _<_};
 ghost use lib.ListN.{length, getD, drop};
 ghost use Rattle.rows.specs.Row.{pick};
-ghost use Rattle.decimal.specs.Numeral.{isDigit, numeral};
-ghost use Rattle.decimal.specs.Lines.{endsNumber, NumberAt, LineAt, Room};
-ghost use Rattle.decimal.specs.Printed.{Printed};
+ghost use Rattle.decimal.specs.Lines.{numeral, numberMost};
+ghost use Rattle.decimal.specs.Promises.{isDigit};
+ghost use Rattle.decimal.specs.Inside.{endsNumber, NumberAt, LineAt, LineRoom, Printed, markedMost};
+
+// The largest number of a line.
+const NUMBER_MOST: u32 = 65535;
 
 // Where reading stands: at a byte of the text, in a line that is counted from 1.
 pub struct Cursor {
@@ -60,7 +63,7 @@ fn ended(text: &[u8], next: Cursor, n: u16) -> Number
 
 // A number whose digits before the cursor make `first`, which is not 0.
 fn digits(text: &[u8], next: Cursor, first: u32) -> Number
-    requires { ⌜ (0 < first) × (first ≤ 65535) ⌝ }
+    requires { ⌜ (0 < first) × (first ≤ numberMost) ⌝ }
     ensures { λ r. ⌜ ((start : ℕ) → drop start (now (text .entry)) ≡ numeral first ++ drop (next .at) (now (text .entry)) → NumberAt (now (text .entry)) (record { at = start; line = next .line }) r) ⌝ }
 {
     let line = next.line;
@@ -68,7 +71,7 @@ fn digits(text: &[u8], next: Cursor, first: u32) -> Number
     let mut at = next.at;
     while digit_at(text, at) {
         n = n * 10 + (text[at] - 48) as u32;
-        if 65535 < n {
+        if NUMBER_MOST < n {
             return Number::Faulty(line);
         }
         at += 1;
@@ -95,7 +98,7 @@ fn number_at(text: &[u8], from: Cursor) -> Number
 
 // The line of numbers at a cursor. They are written into the buffer from place `first` on.
 pub fn read_line(text: &[u8], from: Cursor, out: &mut [u16], first: usize) -> Line
-    requires { ⌜ Room (now text) from (now out) first ⌝ }
+    requires { ⌜ LineRoom (now text) from (now out) first ⌝ }
     ensures { λ r. ⌜ LineAt (now (text .entry)) from (now (out .entry)) first r (now (out .exit)) ⌝ }
 {
     let line = from.line;
@@ -160,8 +163,8 @@ fn put_number(out: &mut [u8], at: usize, n: usize) -> usize
 
 // A mark and a number behind it, into a buffer with room for a mark and the longest number.
 pub fn put_marked(out: &mut [u8], at: usize, mark: u8, n: usize) -> usize
-    requires { ⌜ at + 21 ≤ length (now out) ⌝ }
-    ensures { λ r. ⌜ Printed (now (out .entry)) at (mark ∷ numeral n) r (now (out .exit)) × (r ≤ at + 21) ⌝ }
+    requires { ⌜ at + markedMost ≤ length (now out) ⌝ }
+    ensures { λ r. ⌜ Printed (now (out .entry)) at (mark ∷ numeral n) r (now (out .exit)) × (r ≤ at + markedMost) ⌝ }
 {
     let number = put_byte(out, at, mark);
     put_number(out, number, n)

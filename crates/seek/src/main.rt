@@ -1,100 +1,64 @@
 // `seek`: an alphabet, a row and a pattern on standard input; the matches, or a refusal, on standard output.
-// What it reads and writes is the work of `seek_text` and `seek_print`; here the bytes come in and go out.
+// What it reads and writes is the work of `seek_text`; here the bytes come in and go out.
 ghost use mathlib.Core.Path.{_≡_};
-ghost use mathlib.Core.List.{List};
-ghost use Prim.Native.Nat.{ℕ, _≤_};
+ghost use Prim.Native.Nat.{_+_, _≤_};
 ghost use lib.ListN.{length};
-ghost use Rattle.seek_text.specs.Search.{Ready, AnswerFound};
+ghost use Rattle.seek_print.specs.Inside.{lineMost};
+ghost use Rattle.seek_text.specs.Seek.{inputMost};
+ghost use Rattle.seek_text.specs.Inside.{Printable, numbersMost};
 use libc::STDIN_FILENO;
 use libc::STDOUT_FILENO;
-use rows::Refusal;
-use seek_text::Answer;
+use seek_text::INPUT_MOST;
+use seek_text::NUMBERS_MOST;
+use seek_text::Response;
 
 // Room for the longest input, and for one byte more, which tells that an input is longer.
-fn input_room() -> [u8; 65537]
-    ensures { λ r. ⌜ 65537 ≡ length r ⌝ }
+const INPUT_ROOM: usize = INPUT_MOST + 1;
+
+fn input_room() -> [u8; INPUT_ROOM]
+    ensures { λ r. ⌜ inputMost + 1 ≡ length r ⌝ }
 {
-    [0u8; 65537]
+    [0u8; INPUT_ROOM]
 }
 
-// Room for the numbers of the longest input: each takes two bytes.
-fn numbers_room() -> [u16; 32768]
-    ensures { λ r. ⌜ 32768 ≡ length r ⌝ }
+// Room for the numbers of the longest input.
+fn numbers_room() -> [u16; NUMBERS_MOST]
+    ensures { λ r. ⌜ numbersMost ≡ length r ⌝ }
 {
-    [0u16; 32768]
+    [0u16; NUMBERS_MOST]
 }
 
-// The first n bytes go out.
-fn write_out(out: &[u8], n: usize)
+// The first n bytes go out. Answers whether they all did.
+fn write_out(out: &[u8], n: usize) -> bool
     requires { ⌜ n ≤ length (now out) ⌝ }
 {
-    io::write_all(STDOUT_FILENO, &out[..n]);
+    io::write_all(STDOUT_FILENO, &out[..n])
 }
 
-// The lines of the matches go out, page by page.
-fn write_lines(row: &[u16], table: &[u16], pattern: &[u16], positions: &[u16], out: &mut [u8])
-    requires { ⌜ ((A : List ℕ) × Ready A (now row) (now table) (now pattern) (now positions)) × (1053 ≤ length (now out)) ⌝ }
+// The text of a response goes out, page by page, as long as each page goes out whole.
+fn write_text(response: Response, numbers: &[u16], table: &[u16], positions: &[u16], out: &mut [u8])
+    requires { ⌜ Printable response (now numbers) (now table) (now positions) × (lineMost ≤ length (now out)) ⌝ }
 {
+    let count = seek_text::line_count(response);
     let mut first = 0;
-    while first < positions.len() {
-        let page = seek_text::print_page(row, table, pattern, positions, first, out);
-        write_out(out, page.bytes);
+    while first < count {
+        let page = seek_text::print_page(response, numbers, table, positions, first, out);
+        if !write_out(out, page.bytes) {
+            return;
+        }
         first = page.next;
     }
 }
 
-// The number of the matches goes out, and their lines.
-fn write_found(
-    numbers: &[u16],
-    a: usize,
-    e: usize,
-    p: usize,
-    table: &[u16],
-    positions: &[u16],
-    count: usize,
-    out: &mut [u8],
-)
-    requires { ⌜ ((b : List ℕ) × AnswerFound b a e p count (now numbers) (now table) (now positions)) × (1053 ≤ length (now out)) ⌝ }
-{
-    let n = seek_print::print_count(out, count);
-    write_out(out, n);
-    write_lines(
-        &numbers[a..e],
-        table,
-        &numbers[e..p],
-        &positions[..count],
-        out,
-    );
-}
-
-// A refusal goes out.
-fn write_refusal(refusal: Refusal, out: &mut [u8])
-    requires { ⌜ 64 ≤ length (now out) ⌝ }
-{
-    let n = seek_print::print_refusal(out, refusal);
-    write_out(out, n);
-}
-
-// The answer to an input goes out.
+// The response to an input goes out.
 fn respond(input: &[u8], out: &mut [u8])
-    requires { ⌜ 1053 ≤ length (now out) ⌝ }
+    requires { ⌜ lineMost ≤ length (now out) ⌝ }
 {
     let mut numbers = numbers_room();
     let mut table = tables::long_room();
     let mut positions = tables::long_room();
-    match seek_text::answer_input(input, &mut numbers, &mut table, &mut positions) {
-        Answer::Refused(r) => write_refusal(r, out),
-        Answer::Found(a, e, p, count) => write_found(
-            &numbers,
-            a,
-            e,
-            p,
-            &table,
-            &positions,
-            count,
-            out,
-        ),
-    }
+    let response = seek_text::answer_input(input, &mut numbers, &mut table, &mut positions);
+    write_text(response, &numbers, &table, &positions, out);
 }
 
 fn main() {

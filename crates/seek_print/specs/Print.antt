@@ -3,10 +3,11 @@ use Prim.Native.Nat.{ℕ, zero, suc, _+_}
 use mathlib.Core.List.{List, [], _∷_, _++_}
 use lib.Dec.{eqb}
 use lib.ListN.{getD}
+use Rattle.rows.specs.Limits.{variables}
 use Rattle.rows.specs.Row.{pick}
 use Rattle.refusal_numbers.specs.Numbers.{number, place}
 use Rattle.rows.specs.declared.Refusal.{Refusal}
-use Rattle.decimal.specs.Numeral.{numeral}
+use Rattle.decimal.specs.Lines.{numeral}
 
 -- `refused N P`
 unfoldable pub refusalText : Refusal → List ℕ
@@ -29,4 +30,4 @@ spansText s (suc v) = spansText s v ++ spanText v (getD s (v + v) 0) (getD s (v 
 
 -- `at P E`, and the spans of the variables that the pattern has
 unfoldable pub matchText : ℕ → ℕ → List ℕ → List ℕ
-matchText p e s = (97 ∷ 116 ∷ []) ++ ((32 ∷ numeral p) ++ ((32 ∷ numeral e) ++ (spansText s 16 ++ (10 ∷ []))))
+matchText p e s = (97 ∷ 116 ∷ []) ++ ((32 ∷ numeral p) ++ ((32 ∷ numeral e) ++ (spansText s variables ++ (10 ∷ []))))

@@ -2,17 +2,24 @@
 -- Assumes nothing.
 use Prim.Native.Nat.{ℕ, _+_, _-_, _≤_}
 use mathlib.Core.Path.{_≡_, refl, sym, ap, _∙_}
-use mathlib.Core.List.{List, _++_, append-assoc}
+use mathlib.Core.List.{List, [], _∷_, _++_, append-assoc, append-nil, map}
 use native.Mathlib.Omega.{arith}
 use lib.ListN.{length, take, drop, length-append}
-use lib.Seq.{take-at, drop-at, drop-drop}
+use lib.Seq.{take-at, drop-at, drop-drop, length-take-le}
 use Rattle.rows.specs.Buffers.{written}
 use Rattle.rows.specs.declared.Refusal.{Refusal}
 use Rattle.rows.specs.declared.Check.the-variants as check
 use Rattle.rows.proofs.Buffers.{length-written}
-use Rattle.seek_print.specs.Print.{refusalText}
-use Rattle.seek_text.specs.Input.{Says, ListsRead}
-use Rattle.seek_text.specs.Search.{seekCheck, MatchesFound, Prints, Prints.lists-refused, AnswerFound}
+use Rattle.seek_print.specs.Print.{refusalText, countText}
+use Rattle.seek_text.specs.Seek.{Says, seekCheck, lineText, joined, Prints, Prints.lists-refused, Prints.lists-searched}
+use Rattle.seek_text.specs.Pages.{Answered}
+use Rattle.seek_text.specs.Inside.{ListsRead, MatchesFound, Printable}
+use Rattle.seek_text.specs.declared.search.Response.the-variants.{Matches}
+
+-- a refusal is one line
+pub one-line-printed : (b : List ℕ) (r : Refusal) → Prints b (refusalText r) → Prints b (joined (refusalText r ∷ []))
+unfolding joined
+one-line-printed b r h = rw (append-nil (refusalText r)) h
 
 module _ (b y : List ℕ) (a e p : ℕ) (n : List ℕ) (l : ListsRead b y a e p n) where
   -- what stands behind the lists
@@ -51,20 +58,14 @@ module _ (b y : List ℕ) (a e p : ℕ) (n : List ℕ) (l : ListsRead b y a e p 
   said : Says b (take a n) (take (e - a) (drop a n)) (take (p - e) (drop e n))
   said = rw (arities-part, row-part, pattern-part) (l .says)
 
-  pub answer-refused : (r : Refusal) → seekCheck (take a n) (take (e - a) (drop a n)) (take (p - e) (drop e n)) ≡ check.Refused r → Prints b (refusalText r)
-  answer-refused r h = lists-refused (take a n) (take (e - a) (drop a n)) (take (p - e) (drop e n)) (l .short) said h
+  pub answer-refused : (r : Refusal) → seekCheck (take a n) (take (e - a) (drop a n)) (take (p - e) (drop e n)) ≡ check.Refused r → Prints b (joined (refusalText r ∷ []))
+  answer-refused r h = one-line-printed b r (lists-refused (take a n) (take (e - a) (drop a n)) (take (p - e) (drop e n)) (l .short) said h)
 
-  pub answer-found : (k : ℕ) (t z : List ℕ) → MatchesFound (take a n) (take (e - a) (drop a n)) (take (p - e) (drop e n)) k t z → AnswerFound b a e p k n t z
+  pub answer-found : (k : ℕ) (t z : List ℕ) → MatchesFound (take a n) (take (e - a) (drop a n)) (take (p - e) (drop e n)) k t z → Answered b (Matches a e p k) n z × Printable (Matches a e p k) n t z
+  unfolding joined
   answer-found k t z m =
       let s = places in
-      record {
-        short = l .short;
-        row-after = s .0;
-        pattern-after = s .1;
-        within = s .2;
-        count = m .count;
-        arities = take a n;
-        says = said;
-        fine = m .fine;
-        ready = m .ready;
-      }
+      let w = take (e - a) (drop a n) in
+      let q = take (p - e) (drop e n) in
+      let x : Prints b (countText (length (take k z)) ++ joined (map (lineText (take a n) w q) (take k z))) = lists-searched (take a n) w q (take k z) (l .short) said (m .fine) (m .ready .listed) in
+      (rw (length-take-le k z (m .count)) at x, record { row-after = s .0; pattern-after = s .1; within = s .2; count = m .count; few = m .few; ready = m .ready })

@@ -1,82 +1,95 @@
--- The lines of the matches: one line, one line more, and the whole page by page.
+-- The lines of a response: the line of a match, one line more on a page, and the whole page by page.
 -- Assumes nothing.
 use Prim.Native.Nat.{ℕ, zero, suc, _+_, _-_, _≤_, _<_}
-use mathlib.Core.Path.{_≡_, refl, ap, _∙_}
-use mathlib.Core.List.{List, [], _∷_, _++_, append-assoc, append-nil}
+use mathlib.Core.Path.{_≡_, refl, sym, ap, _∙_}
+use mathlib.Core.List.{List, [], _∷_, _++_, append-assoc, append-nil, map}
 use mathlib.Core.Logic.{_⊎_, inl, inr}
-use mathlib.Core.Bool.{Bool, true, false}
+use native.Mathlib.Numerals.{add-one}
 use native.Mathlib.Omega.{arith}
-use lib.ListN.{length, getD, take, drop, length-append, length-drop, drop-of-length-le}
-use lib.Seq.{take-suc, getD-drop}
-use Rattle.rows.specs.Row.{pick}
-use Rattle.rows.specs.Parse.{table}
+use lib.ListN.{length, getD, take, drop, length-drop, drop-of-length-le, take-append-drop}
+use lib.Seq.{length-take-le, take-suc, getD-take, getD-drop, drop-length, drop-drop}
+use Rattle.rows.specs.Limits.{spanPlaces}
+use Rattle.rows.specs.Programme.{Alphabet, alphabetOf}
 use Rattle.rows.specs.Buffers.{written}
 use Rattle.rows.proofs.Buffers.{written-front}
-use Rattle.patterns.specs.Answers.{MatchesAt, isLeaf, span, spansBelow, spans}
-use Rattle.searches.specs.Searches.{Binds}
-use Rattle.patterns.specs.Pattern.{leaf}
+use Rattle.patterns.specs.Answers.{MatchesAt, spans}
+use Rattle.patterns.specs.declared.Walked.{Walked}
+use Rattle.patterns.specs.declared.Walked.the-variants.{Through, Fails}
+use Rattle.patterns.proofs.Promises.{spans-long}
+use Rattle.searches.specs.Searches.{VariablesAt}
 use Rattle.patterns.proofs.Listing.{mem-at}
-use Rattle.decimal.specs.Printed.{Printed}
+use Rattle.decimal.specs.Inside.{Printed}
 use Rattle.decimal.proofs.Writing.{printed-none, printed-more}
-use Rattle.seek_text.specs.Search.{Ready, lineText, linesText, LinePrinted, PagePrinted}
+use Rattle.seek_print.specs.Inside.{lineMost}
+use Rattle.seek_text.specs.Seek.{lineText, joined}
+use Rattle.seek_text.specs.Pages.{linesOf, PagePrinted, Pages, Pages.done, Pages.page}
+use Rattle.seek_text.specs.Inside.{Holds}
+use Rattle.seek_text.specs.declared.search.Response.the-variants.{Matches}
 
--- begin and end of sixteen variables
-span-length : (t : List ℕ) (i : ℕ) (q ps : List ℕ) → length (span t i q ps) ≡ 2
-unfolding span
-span-length t i [] ps = refl
-span-length t i (s ∷ q) [] = refl
-span-length t i (s ∷ q) (p ∷ ps) = go (isLeaf i (leaf s)) (span-length t i q ps)
-  where
-    go : (b : Bool) → length (span t i q ps) ≡ 2 → length (pick b (p ∷ getD t p 0 ∷ []) (span t i q ps)) ≡ 2
-    go true h = refl
-    go false h = h
-
-spans-length : (t : List ℕ) (n : ℕ) (q ps : List ℕ) → length (spansBelow t n q ps) ≡ n + n
-unfolding spansBelow
-spans-length t zero q ps = refl
-spans-length t (suc n) q ps = rw length-append (omega (arith, spans-length t n q ps, span-length t n q ps))
-
--- the spans fill a buffer of 32 places
-pub spans-fill : (A w t q : List ℕ) (p : ℕ) (y : List ℕ) (r : Bool) (y′ : List ℕ) → length y ≡ 32 → MatchesAt A w q p → Binds A w q p y r y′ → y′ ≡ spans A w q p
+-- at a match the spans fill a buffer that has begin and end of each variable
+pub spans-fill : (a : Alphabet) (w q : List ℕ) (p : ℕ) (y : List ℕ) (r : Walked) (y′ : List ℕ) → length y ≡ spanPlaces → MatchesAt a w q p → VariablesAt a w q p y r y′
+    → y′ ≡ spans (a .arities) w q p
 unfolding written
-spans-fill A w t q p y r y′ h m b =
-    let k : r ≡ true = b .answer .1 m in
-    let l : length (spans A w q p) ≡ 32 = spans-length (table A w) 16 q _ in
-    b .buffer ∙ rw (k, drop-of-length-le y {i = 0 + length (spans A w q p)} (omega arith), append-nil (spans A w q p))
+spans-fill a w q p y Through y′ h m b =
+    let s = spans (a .arities) w q p in
+    b .buffer ∙ rw (drop-of-length-le y {i = 0 + length s} (omega (arith, spans-long (a .arities) w q p)), append-nil s)
+spans-fill a w q p y (Fails k j) y′ h m b = absurd (b .answer .0 m)
 
--- a line more
-pub lines-snoc : (A w q ps : List ℕ) (p : ℕ) → linesText A w q (ps ++ (p ∷ [])) ≡ linesText A w q ps ++ lineText A w q p
-unfolding linesText
-lines-snoc A w q [] p = append-nil (lineText A w q p)
-lines-snoc A w q (x ∷ ps) p = rw (lines-snoc A w q ps p, append-assoc)
+length-map : (f : ℕ → List ℕ) (ps : List ℕ) → length (map f ps) ≡ length ps
+length-map f [] = refl
+length-map f (p ∷ ps) = ap suc (length-map f ps)
 
--- the lines of the first k positions, and those of the others
-pub lines-split : (A w q : List ℕ) (k : ℕ) (ps : List ℕ) → linesText A w q ps ≡ linesText A w q (take k ps) ++ linesText A w q (drop k ps)
-unfolding linesText
-lines-split A w q zero ps = refl
-lines-split A w q (suc k) [] = refl
-lines-split A w q (suc k) (p ∷ ps) = rw append-assoc (ap (λ z. lineText A w q p ++ z) (lines-split A w q k ps))
+getD-map : (f : ℕ → List ℕ) (ps : List ℕ) (i : ℕ) → i < length ps → getD (map f ps) i [] ≡ f (getD ps i 0)
+getD-map f [] i h = absurd (omega arith)
+getD-map f (p ∷ ps) zero h = refl
+getD-map f (p ∷ ps) (suc i) h = getD-map f ps i (omega arith)
 
--- the part of the positions from `first` on that was printed, with one more
-pub part-more : (ps : List ℕ) (first i : ℕ) → first ≤ i → i < length ps
-    → take (i + 1 - first) (drop first ps) ≡ take (i - first) (drop first ps) ++ (getD ps i 0 ∷ [])
-part-more ps first i h k =
+module _ (a e p k : ℕ) (n t y : List ℕ) (h : Holds a e p k n t y) where
+  -- the count and the matches
+  pub lines-many : length (linesOf (Matches a e p k) n y) ≡ k + 1
+  lines-many = ap suc (length-map _ (take k y) ∙ length-take-le k y (h .count)) ∙ sym (add-one k)
+
+  -- a line that is not the first is a match's: its position stands in the buffer, and the pattern matches there
+  pub record Located (i : ℕ) : Type 0 where
+    pub within : getD y (i - 1) 0 < length (take (e - a) (drop a n))
+    pub matches : MatchesAt (alphabetOf (take a n)) (take (e - a) (drop a n)) (take (p - e) (drop e n)) (getD y (i - 1) 0)
+    pub line : getD (linesOf (Matches a e p k) n y) i [] ≡ lineText (take a n) (take (e - a) (drop a n)) (take (p - e) (drop e n)) (getD y (i - 1) 0)
+
+  pub located : (i : ℕ) → 0 < i → i ≤ k → Located i
+  located zero l m = absurd (omega arith)
+  located (suc i) l m =
+      let d : suc i - 1 ≡ i = omega arith in
+      let s : length (take k y) ≡ k = length-take-le k y (h .count) in
+      let g : getD (take k y) i 0 ≡ getD y (suc i - 1) 0 = getD-take k y i 0 (omega arith) ∙ ap (λ j. getD y j 0) (sym d) in
+      let x = rw g at (h .ready .listed .exactly (getD (take k y) i 0) .0 (mem-at (take k y) i (omega arith))) in
+      record { within = x .0; matches = x .1; line = getD-map _ (take k y) i (omega arith) ∙ rw g }
+
+-- lines, and then others behind them
+joined-append : (ls ms : List (List ℕ)) → joined (ls ++ ms) ≡ joined ls ++ joined ms
+unfolding joined
+joined-append [] ms = refl
+joined-append (l ∷ ls) ms = rw (joined-append ls ms, append-assoc)
+
+-- the part of the lines from `first` on that was printed, with one more
+part-more : (ls : List (List ℕ)) (first i : ℕ) → first ≤ i → i < length ls
+    → take (i + 1 - first) (drop first ls) ≡ take (i - first) (drop first ls) ++ (getD ls i [] ∷ [])
+part-more ls first i h k =
     let e : i + 1 - first ≡ suc (i - first) = omega arith in
     let f : first + (i - first) ≡ i = omega arith in
-    rw (e, take-suc (drop first ps) (i - first) 0 (rw length-drop (omega arith)), getD-drop first ps (i - first) 0, f)
+    rw (e, take-suc (drop first ls) (i - first) [] (rw length-drop (omega arith)), getD-drop first ls (i - first) [], f)
 
--- the lines of the matches from number `first` up to i stand at the front of the buffer b, which was b₀, up to place `at`
-pub record Paged (w t q ps : List ℕ) (first : ℕ) (b₀ b : List ℕ) (at i : ℕ) : Type 0 where
+-- the lines from number `first` up to i stand at the front of the buffer b, which was b₀, up to place `at`
+pub record Paged (ls : List (List ℕ)) (first : ℕ) (b₀ b : List ℕ) (at i : ℕ) : Type 0 where
   pub on : first ≤ i
-  pub within : i ≤ length ps
+  pub within : i ≤ length ls
   pub size : length b ≡ length b₀
   pub room : at ≤ length b₀
   pub begun : i ≡ first → at ≡ 0
-  pub text : (A : List ℕ) → Ready A w t q ps → Printed b₀ 0 (linesText A w q (take (i - first) (drop first ps))) at b
+  pub text : Printed b₀ 0 (joined (take (i - first) (drop first ls))) at b
 
-pub paged-none : (w t q ps : List ℕ) (first : ℕ) (b : List ℕ) → first ≤ length ps → Paged w t q ps first b b 0 first
-unfolding linesText
-paged-none w t q ps first b h =
+pub paged-none : (ls : List (List ℕ)) (first : ℕ) (b : List ℕ) → first ≤ length ls → Paged ls first b b 0 first
+unfolding joined
+paged-none ls first b h =
     let e : first - first ≡ 0 = omega arith in
     record {
       on = omega arith;
@@ -84,45 +97,51 @@ paged-none w t q ps first b h =
       size = refl;
       room = omega arith;
       begun = λ _. refl;
-      text = λ A r. rw e (printed-none b 0);
+      text = rw e (printed-none b 0);
     }
 
-module _ (w t q ps : List ℕ) (first : ℕ) (b₀ b : List ℕ) (at i : ℕ) (s : Paged w t q ps first b₀ b at i) where
-  -- a listed position is within the row, and the pattern matches there
-  pub match-at : i < length ps → (A : List ℕ) → Ready A w t q ps → (getD ps i 0 < length w) × MatchesAt A w q (getD ps i 0)
-  match-at h A r = r .listed .exactly (getD ps i 0) .0 (mem-at ps i h)
-
-  pub paged-more : (r : ℕ) (b′ : List ℕ) → i < length ps → length b′ ≡ length b → LinePrinted w t q (getD ps i 0) b at r b′ → Paged w t q ps first b₀ b′ r (i + 1)
+module _ (ls : List (List ℕ)) (first : ℕ) (b₀ b : List ℕ) (at i : ℕ) (s : Paged ls first b₀ b at i) where
+  pub paged-more : (r : ℕ) (b′ : List ℕ) → i < length ls → length b′ ≡ length b → Printed b at (getD ls i []) r b′ × (r ≤ length b) → Paged ls first b₀ b′ r (i + 1)
+  unfolding joined
   paged-more r b′ h k l =
       let o = s .on in
       let z = s .size in
+      let e : joined (take (i + 1 - first) (drop first ls)) ≡ joined (take (i - first) (drop first ls)) ++ getD ls i []
+      = ap joined (part-more ls first i o h) ∙ joined-append (take (i - first) (drop first ls)) (getD ls i [] ∷ []) ∙ ap (λ m. joined (take (i - first) (drop first ls)) ++ m) (append-nil (getD ls i [])) in
       record {
         on = omega arith;
         within = omega arith;
         size = k ∙ z;
-        room = omega (arith, l .within);
+        room = omega (arith, l .1);
         begun = λ e. absurd (omega arith);
-        text = λ A y.
-            rw (part-more ps first i o h, lines-snoc A w q (take (i - first) (drop first ps)) (getD ps i 0))
-            (printed-more (s .room) (s .text A y) (l .text A (y .checked) (match-at h A y .1)));
+        text = rw e (printed-more (s .room) (s .text) (l .0));
       }
 
   -- the page is full, or all is printed
-  pub page-printed : 1053 ≤ length b₀ → (length ps ≤ i) ⊎ (length b - at < 1053) → (A : List ℕ) → Ready A w t q ps
-      → PagePrinted A w q ps first (record { next = i; bytes = at }) b
-  page-printed h e A r =
+  pub page-printed : lineMost ≤ length b₀ → (length ls ≤ i) ⊎ (length b - at < lineMost) → PagePrinted ls first (record { next = i; bytes = at }) b
+  page-printed h e =
       let o = s .on in
       let z = s .size in
-      let p = s .text A r in
-      let n : at ≡ length (linesText A w q (take (i - first) (drop first ps))) = omega (arith, p .next) in
+      let p = s .text in
+      let n : at ≡ length (joined (take (i - first) (drop first ls))) = omega (arith, p .next) in
       record {
         on = o;
         more = λ l. (let m : i ≡ first → ⊥ = λ x. full (s .begun x) x l e in omega arith);
         within = s .within;
         bytes = omega (arith, s .room);
-        text = rw (n, p .buffer) (written-front b₀ (linesText A w q (take (i - first) (drop first ps))));
+        text = rw (n, p .buffer) (written-front b₀ (joined (take (i - first) (drop first ls))));
       }
     where
-      full : at ≡ 0 → i ≡ first → first < length ps → (length ps ≤ i) ⊎ (length b - at < 1053) → ⊥
+      full : at ≡ 0 → i ≡ first → first < length ls → (length ls ≤ i) ⊎ (length b - at < lineMost) → ⊥
       full x y l (inl k) = omega arith
       full x y l (inr k) = omega (arith, s .size)
+
+-- pages from a line on are the lines from there on
+pub pages-from : (ls : List (List ℕ)) (first : ℕ) (z : List ℕ) → first ≤ length ls → Pages ls first z → z ≡ joined (drop first ls)
+unfolding joined
+pages-from ls first z h done = rw (drop-length ls)
+pages-from ls first z h (page {z = y} p b g f) =
+    let k : first + (p .next - first) ≡ p .next = omega (arith, g .on) in
+    let m : drop (p .next - first) (drop first ls) ≡ drop (p .next) ls = drop-drop (p .next - first) first ls ∙ ap (λ i. drop i ls) k in
+    rw (g .text, pages-from ls (p .next) y (g .within) f, ← m)
+    (sym (joined-append (take (p .next - first) (drop first ls)) (drop (p .next - first) (drop first ls))) ∙ ap joined (take-append-drop (p .next - first) (drop first ls)))

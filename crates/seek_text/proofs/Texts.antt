@@ -6,18 +6,21 @@ use mathlib.Core.List.{List, _++_, append-assoc, append-nil}
 use native.Mathlib.Omega.{arith}
 use lib.ListN.{length, drop, length-append, length-drop, drop-of-length-le}
 use Rattle.rows.specs.Buffers.{written}
-use Rattle.rows.specs.declared.Refusal.the-variants as refusal
-use Rattle.decimal.specs.Lines.{line, HasLine, LineRead, Room}
+use Rattle.rows.specs.declared.Refusal.the-variants.{Input}
+use Rattle.rows.specs.declared.Text.the-variants as text
+use Rattle.decimal.specs.Lines.{line}
+use Rattle.decimal.specs.Inside.{HasLine, LineRead, LineRoom}
 use Rattle.decimal.specs.declared.Cursor.{Cursor}
 use Rattle.decimal.proofs.Writing.{written-append}
 use Rattle.decimal.proofs.Lining.{line-begins, room-next}
-use Rattle.seek_text.specs.Input.{NoLine, Faulty, Faulty.here, Faulty.later, Faulty.extra, Refuses, Refuses.faulty, ListsRead}
+use Rattle.seek_text.specs.Seek.{inputMost, NoLine, Faulty, Faulty.here, Faulty.later, Faulty.extra, Refuses, Refuses.faulty}
+use Rattle.seek_text.specs.Inside.{ListsRead, numbersMost}
 
 -- the first line's cursor
 abbrev pub top : Cursor
 top = record { at = 0; line = 1 }
 
-pub top-room : (b y : List ℕ) → length b ≤ 65536 → 32768 ≤ length y → Room b top y 0
+pub top-room : (b y : List ℕ) → length b ≤ inputMost → numbersMost ≤ length y → LineRoom b top y 0
 top-room b y h k = record { numbers = omega arith; buffer = omega arith; lines = omega arith }
 
 -- no line was found at a position
@@ -27,31 +30,31 @@ None b at = (ns : List ℕ) (end : ℕ) → HasLine b at ns end → ⊥
 none-line : (b : List ℕ) (at : ℕ) → None b at → NoLine (drop at b)
 none-line b at h ns z small e = h ns _ (line-begins b at ns z small e)
 
-module _ (b y : List ℕ) (short : length b ≤ 65536) where
-  pub refused-first : (k : ℕ) → None b 0 × (k ≡ 1) → Refuses b (refusal.Line k)
+module _ (b y : List ℕ) (short : length b ≤ inputMost) where
+  pub refused-first : (k : ℕ) → None b 0 × (k ≡ 1) → Refuses b (Input (text.Line k))
   refused-first k h = rw (h .1) (faulty short (here (none-line b 0 (h .0))))
 
   module _ {a : ℕ} {d₁ : Cursor} {y₁ : List ℕ} (l₁ : LineRead b top y 0 a d₁ y₁) where
     -- a fault behind the first line
-    after-first : {k : ℕ} → Faulty 2 2 (drop (d₁ .at) b) k → Refuses b (refusal.Line k)
+    after-first : {k : ℕ} → Faulty 2 2 (drop (d₁ .at) b) k → Refuses b (Input (text.Line k))
     after-first f = faulty short (later (l₁ .numbers) (drop (d₁ .at) b) (l₁ .stands .small) (l₁ .stands .text) f)
 
-    pub refused-second : (k : ℕ) → None b (d₁ .at) × (k ≡ d₁ .line) → Refuses b (refusal.Line k)
+    pub refused-second : (k : ℕ) → None b (d₁ .at) × (k ≡ d₁ .line) → Refuses b (Input (text.Line k))
     refused-second k h =
         let e : k ≡ 2 = h .1 ∙ l₁ .next in
         rw e (after-first (here (none-line b (d₁ .at) (h .0))))
 
     module _ {r : ℕ} {d₂ : Cursor} {y₂ : List ℕ} (l₂ : LineRead b d₁ y₁ a r d₂ y₂) where
-      after-second : {k : ℕ} → Faulty 1 3 (drop (d₂ .at) b) k → Refuses b (refusal.Line k)
+      after-second : {k : ℕ} → Faulty 1 3 (drop (d₂ .at) b) k → Refuses b (Input (text.Line k))
       after-second f = after-first (later (l₂ .numbers) (drop (d₂ .at) b) (l₂ .stands .small) (l₂ .stands .text) f)
 
-      pub refused-third : (k : ℕ) → None b (d₂ .at) × (k ≡ d₂ .line) → Refuses b (refusal.Line k)
+      pub refused-third : (k : ℕ) → None b (d₂ .at) × (k ≡ d₂ .line) → Refuses b (Input (text.Line k))
       refused-third k h =
           let e : k ≡ 3 = h .1 ∙ l₂ .next ∙ ap (λ n. n + 1) (l₁ .next) in
           rw e (after-second (here (none-line b (d₂ .at) (h .0))))
 
       module _ {p : ℕ} {d₃ : Cursor} {y₃ : List ℕ} (l₃ : LineRead b d₂ y₂ r p d₃ y₃) where
-        pub refused-fourth : d₃ .at < length b → Refuses b (refusal.Line (d₃ .line))
+        pub refused-fourth : d₃ .at < length b → Refuses b (Input (text.Line (d₃ .line)))
         refused-fourth h =
             let e : d₃ .line ≡ 4 = l₃ .next ∙ ap (λ n. n + 1) (l₂ .next ∙ ap (λ n. n + 1) (l₁ .next)) in
             rw e (after-second (later (l₃ .numbers) (drop (d₃ .at) b) (l₃ .stands .small) (l₃ .stands .text) (extra (rw length-drop (omega arith)))))
@@ -61,7 +64,7 @@ module _ (b y : List ℕ) (short : length b ≤ 65536) where
             l₁ .stands .text
             ∙ ap (λ z. line (l₁ .numbers) ++ z) (l₂ .stands .text ∙ ap (λ z. line (l₂ .numbers) ++ z) (l₃ .stands .text))
 
-        pub lists-read : 32768 ≤ length y → length b ≤ d₃ .at → ListsRead b y a r p y₃
+        pub lists-read : numbersMost ≤ length y → length b ≤ d₃ .at → ListsRead b y a r p y₃
         lists-read room h =
             let A = l₁ .numbers in
             let w = l₂ .numbers in

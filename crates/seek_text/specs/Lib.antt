@@ -1,3 +1,4 @@
-pub mod Input
-pub mod Search
+pub mod Seek
+pub mod Pages
+pub mod Inside
 pub mod Promises

@@ -1,7 +1,9 @@
 // The search: the row's table is built, and the matches are listed.
 ghost use Prim.Native.Nat.{_-_, _≤_};
 ghost use lib.ListN.{length, take, drop};
-ghost use Rattle.seek_text.specs.Search.{Searched, Answered};
+ghost use Rattle.rows.specs.Limits.{rowMost};
+ghost use Rattle.seek_text.specs.Pages.{Answered};
+ghost use Rattle.seek_text.specs.Inside.{Searched, Printable, numbersMost};
 use crate::input::Input;
 use crate::input::read_input;
 use sparrowhem::Check;
@@ -17,7 +19,7 @@ fn find_matches(
     table: &mut [u16],
     positions: &mut [u16],
 ) -> Found
-    requires { ⌜ (16384 ≤ length (now table)) × (16384 ≤ length (now positions)) ⌝ }
+    requires { ⌜ (rowMost ≤ length (now table)) × (rowMost ≤ length (now positions)) ⌝ }
     ensures { λ r. ⌜ Searched (now (arities .entry)) (now (row .entry)) (now (pattern .entry)) r (now (table .exit)) (now (positions .exit)) ⌝ }
 {
     match sparrowhem::build(arities, row, table) {
@@ -35,7 +37,7 @@ fn find_in(
     table: &mut [u16],
     positions: &mut [u16],
 ) -> Found
-    requires { ⌜ (a ≤ e) × (e ≤ p) × (p ≤ length (now numbers)) × (16384 ≤ length (now table)) × (16384 ≤ length (now positions)) ⌝ }
+    requires { ⌜ (a ≤ e) × (e ≤ p) × (p ≤ length (now numbers)) × (rowMost ≤ length (now table)) × (rowMost ≤ length (now positions)) ⌝ }
     ensures { λ r. ⌜ Searched (take a (now (numbers .entry))) (take (e - a) (drop a (now (numbers .entry)))) (take (p - e) (drop e (now (numbers .entry)))) r (now (table .exit)) (now (positions .exit)) ⌝ }
 {
     find_matches(
@@ -49,28 +51,28 @@ fn find_in(
 
 // What `seek` answers: where arities, row and pattern end in the buffer that holds them, and the number of the matches; or
 // why it refuses.
-pub enum Answer {
-    Found(usize, usize, usize, usize),
+pub enum Response {
+    Matches(usize, usize, usize, usize),
     Refused(Refusal),
 }
 
-// The answer to an input. The matches stand at the front of `positions`, the row's table at the front of `table`, and the
+// The response to an input. The matches stand at the front of `positions`, the row's table at the front of `table`, and the
 // three lists at the front of `numbers`.
 pub fn answer_input(
     input: &[u8],
     numbers: &mut [u16],
     table: &mut [u16],
     positions: &mut [u16],
-) -> Answer
-    requires { ⌜ (32768 ≤ length (now numbers)) × (16384 ≤ length (now table)) × (16384 ≤ length (now positions)) ⌝ }
-    ensures { λ r. ⌜ Answered (now (input .entry)) r (now (numbers .exit)) (now (table .exit)) (now (positions .exit)) ⌝ }
+) -> Response
+    requires { ⌜ (numbersMost ≤ length (now numbers)) × (rowMost ≤ length (now table)) × (rowMost ≤ length (now positions)) ⌝ }
+    ensures { λ r. ⌜ Answered (now (input .entry)) r (now (numbers .exit)) (now (positions .exit)) × Printable r (now (numbers .exit)) (now (table .exit)) (now (positions .exit)) ⌝ }
 {
     match read_input(input, numbers) {
-        Input::Refused(r) => Answer::Refused(r),
+        Input::Refused(r) => Response::Refused(r),
         Input::Lists(a, e, p) => {
             match find_in(numbers, a, e, p, table, positions) {
-                Found::Refused(r) => Answer::Refused(r),
-                Found::Matches(count) => Answer::Found(a, e, p, count),
+                Found::Refused(r) => Response::Refused(r),
+                Found::Matches(count) => Response::Matches(a, e, p, count),
             }
         }
     }

@@ -5,7 +5,7 @@ use mathlib.Core.Path.{_≡_, ap, _∙_}
 use mathlib.Core.List.{[], _∷_}
 use native.Mathlib.Omega.{arith}
 use lib.ListN.{length, length-append}
-use Rattle.decimal.specs.Numeral.{numeral}
+use Rattle.decimal.specs.Lines.{numeral}
 use Rattle.decimal.proofs.Numerals.{numeral-one, numeral-more, numeral-some}
 use Rattle.decimal.proofs.Writing.{printed-more}
 use borrow.Author.Needs.{needs}

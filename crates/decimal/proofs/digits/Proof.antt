@@ -7,7 +7,8 @@ use mathlib.Core.Logic.{inr}
 use mathlib.Core.List.{_++_}
 use lib.ListN.{length, getD, drop}
 use native.Mathlib.Omega.{arith}
-use Rattle.decimal.specs.Numeral.{isDigit, numeral}
+use Rattle.decimal.specs.Lines.{numeral, numberMost}
+use Rattle.decimal.specs.Promises.{isDigit}
 use Rattle.decimal.proofs.Reading.{none-larger, digit-more, digit-here, ended-is}
 use borrow.Author.Needs.{needs}
 use Rattle.decimal.proofs.digits.Statement.{statement}
@@ -15,7 +16,7 @@ use Rattle.decimal.proofs.digits.Tie as tie
 
 abbrev Inv-loop : tie.InvT-loop
 Inv-loop text first line n₀ at₀ n at =
-    (0 < n) × (n ≤ 65535) × (numeral first ++ drop at₀ text ≡ numeral n ++ drop at text)
+    (0 < n) × (n ≤ numberMost) × (numeral first ++ drop at₀ text ≡ numeral n ++ drop at text)
 
 abbrev μ-loop : tie.MeasureT-loop
 μ-loop text first line n₀ at₀ n at = length text - at

@@ -6,7 +6,7 @@ use mathlib.Core.Bool.{true}
 use mathlib.Core.Logic.{inl}
 use native.Mathlib.Omega.{arith}
 use lib.ListN.{length, getD}
-use Rattle.decimal.specs.Numeral.{isDigit}
+use Rattle.decimal.specs.Promises.{isDigit}
 use Rattle.decimal.proofs.Reading.{digit-here, digit-first, ended-is, none-here}
 use borrow.Author.Needs.{needs}
 use Rattle.decimal.proofs.number_at.Statement.{statement}

@@ -4,7 +4,7 @@ use Prim.Native.Nat.{_-_, _<_}
 use mathlib.Core.Path.{_≡_, refl, sym, _∙_}
 use native.Mathlib.Omega.{arith}
 use lib.ListN.{length, getD, length-set}
-use Rattle.decimal.specs.Lines.{endsNumber, Stands}
+use Rattle.decimal.specs.Inside.{endsNumber, Stands}
 use Rattle.decimal.proofs.Reading.{inside}
 use Rattle.decimal.proofs.Lining.{Sofar, empty-line, none-lines, sofar-none, sofar-more, line-read, stands-within}
 use borrow.Author.Needs.{needs}

@@ -5,19 +5,21 @@ use mathlib.Core.Path.{_≡_, refl}
 use native.Mathlib.Numerals.{add-one}
 use native.Mathlib.Omega.{arith}
 use lib.ListN.{length}
-use Rattle.decimal.specs.Printed.{Printed}
+use Rattle.rows.specs.Limits.{variables}
+use Rattle.decimal.specs.Inside.{Printed}
 use Rattle.decimal.proofs.Writing.{printed-none, printed-more}
 use Rattle.seek_print.specs.Print.{spansText}
+use Rattle.seek_print.specs.Inside.{spanMost}
 use borrow.Author.Needs.{needs}
 use Rattle.seek_print.proofs.put_spans.Statement.{statement}
 use Rattle.seek_print.proofs.put_spans.Tie as tie
 
 abbrev Inv-loop : tie.InvT-loop
 Inv-loop out₀ at spans end₀ v₀ out end v =
-    (v ≤ 16) × (length out ≡ length out₀) × (end ≤ at + 63 * v) × Printed out₀ at (spansText spans v) end out
+    (v ≤ variables) × (length out ≡ length out₀) × (end ≤ at + spanMost * v) × Printed out₀ at (spansText spans v) end out
 
 abbrev μ-loop : tie.MeasureT-loop
-μ-loop out₀ at spans end₀ v₀ out end v = 16 - v
+μ-loop out₀ at spans end₀ v₀ out end v = variables - v
 
 loop-holds : tie.Need-loop-holds Inv-loop μ-loop
 unfolding spansText
@@ -70,7 +72,7 @@ same-length c = search needs
 returns : tie.Need-returns Inv-loop μ-loop
 returns c =
     let l = c .before .loop in
-    let e : l .v ≡ 16 = search needs in
+    let e : l .v ≡ variables = search needs in
     (rw e at (l .inv .3), search needs)
 
 pub put-spans-spec : {M : Type 1} → statement M

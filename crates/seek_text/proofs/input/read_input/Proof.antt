@@ -1,8 +1,8 @@
 -- `seek_text::input::read_input` meets its contract. The lines are read one after the other, each behind the one before.
 -- Assumes nothing.
-use Rattle.decimal.specs.Lines.{LineRead, Room}
+use Rattle.decimal.specs.Inside.{LineRead, LineRoom}
 use Rattle.decimal.proofs.Lining.{room-next}
-use Rattle.seek_text.specs.Input.{Refuses.long}
+use Rattle.seek_text.specs.Seek.{Refuses.long}
 use Rattle.seek_text.proofs.Texts.{top, top-room, refused-first, refused-second, refused-third, refused-fourth, lists-read}
 use borrow.Author.Needs.{needs}
 use Rattle.seek_text.proofs.input.read_input.Statement.{statement}
@@ -22,10 +22,10 @@ line₃ : (c : tie.After-known-told6)
 line₃ c = rw (c .before .pattern .given .1) at (c .before .before .before .before .before .read-line3 .ensures)
 
 -- room for what the second line holds, and the third
-room₁ : (c : tie.After-known-told2) → Room (c .before .before .before .before .before .before .before .before .before .before .args .input .now) (c .before .arities .given .0 .1 .0) (c .before .before .before .before .before .read-line .last .1 .1 .0) (c .before .arities .given .0 .0)
+room₁ : (c : tie.After-known-told2) → LineRoom (c .before .before .before .before .before .before .before .before .before .before .args .input .now) (c .before .arities .given .0 .1 .0) (c .before .before .before .before .before .read-line .last .1 .1 .0) (c .before .arities .given .0 .0)
 room₁ c = room-next (top-room (c .before .before .before .before .before .before .before .before .before .before .args .input .now) (c .before .before .before .before .before .before .before .before .before .before .args .numbers .now) (c .before .before .before .before .before .before .before .if1 .left) (c .before .before .before .before .before .before .before .before .before .before .pre)) (line₁ c) .0
 
-room₂ : (c : tie.After-known-told4) → Room (c .before .before .before .before .before .before .before .before .before .before .before .before .before .before .before .before .before .args .input .now) (c .before .row .given .0 .1 .0) (c .before .before .before .before .before .read-line2 .last .1 .1 .0) (c .before .row .given .0 .0)
+room₂ : (c : tie.After-known-told4) → LineRoom (c .before .before .before .before .before .before .before .before .before .before .before .before .before .before .before .before .before .args .input .now) (c .before .row .given .0 .1 .0) (c .before .before .before .before .before .read-line2 .last .1 .1 .0) (c .before .row .given .0 .0)
 room₂ c = room-next (room₁ (c .before .before .before .before .before .before .before)) (line₂ c) .0
 
 returns : tie.Need-returns

@@ -1,57 +1,56 @@
--- `seek_text::pages::put_line` meets its contract. Where the pattern matches, the spans are written.
+-- `seek_text::pages::put_line` meets its contract: a refusal is one line, and what was found is the lines that it has.
 -- Assumes nothing.
-use mathlib.Core.Path.{refl}
+use mathlib.Core.Path.{_≡_}
 use native.Mathlib.Omega.{arith}
-use Rattle.tables.proofs.Given.{right-entry}
-use Rattle.seek_text.proofs.Paging.{spans-fill}
+use Rattle.seek_text.proofs.Paging.{lines-many}
 use borrow.Author.Needs.{needs}
 use Rattle.seek_text.proofs.pages.put_line.Statement.{statement}
 use Rattle.seek_text.proofs.pages.put_line.Tie as tie
 
-slice-aggregate-variables-at : tie.Need-slice-aggregate-variables-at
-slice-aggregate-variables-at c = search needs
+enum-known-response : tie.Need-enum-known-response
+enum-known-response c = search needs
 
-variables-at-requires : tie.Need-variables-at-requires
-variables-at-requires c κs = search needs
+put-refusal-requires : tie.Need-put-refusal-requires
+put-refusal-requires c κs = search needs
 
-mul-put-match : tie.Need-mul-put-match
-mul-put-match c = search needs
+enum-known-response-2 : tie.Need-enum-known-response-2
+enum-known-response-2 c = search needs
 
-shared-slice-read-put-match : tie.Need-shared-slice-read-put-match
-shared-slice-read-put-match c = search needs
-
-slice-aggregate-put-match : tie.Need-slice-aggregate-put-match
-slice-aggregate-put-match c = search needs
-
-put-match-requires : tie.Need-put-match-requires
-put-match-requires c κs = search needs
+put-numbered-requires : tie.Need-put-numbered-requires
+put-numbered-requires c κs =
+    let e = c .before .before .response2 .given .1 in
+    let h = c .before .before .before .before .before .before .before .before .pre in
+    let g = rw e at (h .0) in
+    let k = rw e at (h .1) in
+    (g, omega (arith, k, lines-many _ _ _ _ _ _ _ g), h .2)
 
 same-length : tie.Need-same-length
 same-length c = search needs
 
 returns : tie.Need-returns
 returns c =
-    let a = c .before .before .before .before .before .before .before .before .before .before .before .before .before .args in
-    let w = a .row .now in
-    let t = a .table .now in
-    let q = a .pattern .now in
-    record {
-      within = omega (arith, c .before .before .before .before .before .before .before .before .before .before .before .before .before .pre .2, c .before .before .put-match .ensures .1);
-      text = λ A k m.
-          (let s = spans-fill A w t q (a .p) _ _ _ refl m (c .before .before .before .before .before .before .before .variables-at .ensures A k) in
-          let e = right-entry A w t (k .row) (a .p) (c .before .before .before .before .before .before .before .before .before .before .before .before .before .pre .1) in
-          rw (s, e) at (c .before .before .put-match .ensures .0));
-    }
+    let e = c .before .before .before .before .before .response .given .1 in
+    let h = c .before .before .before .before .before .before .before .before .before .before .before .pre in
+    let k = rw e at (h .1) in
+    let z : c .before .before .before .before .before .before .before .before .before .before .before .args .i ≡ 0 = omega (arith, k) in
+    let x = c .before .before .put-refusal .ensures in
+    (rw (e, z) (x .0), omega (arith, h .2, x .1))
+
+same-length-2 : tie.Need-same-length-2
+same-length-2 c = search needs
+
+returns-2 : tie.Need-returns-2
+returns-2 c = rw (c .before .before .before .before .before .response2 .given .1) (c .before .before .put-numbered .ensures)
 
 pub put-line-spec : {M : Type 1} → statement M
 put-line-spec =
     tie.close
     (tie.spec
-    slice-aggregate-variables-at
-    variables-at-requires
-    mul-put-match
-    shared-slice-read-put-match
-    slice-aggregate-put-match
-    put-match-requires
+    enum-known-response
+    put-refusal-requires
+    enum-known-response-2
+    put-numbered-requires
     same-length
-    returns)
+    returns
+    same-length-2
+    returns-2)

@@ -1,8 +1,8 @@
 -- `seek_text::search::answer_input` meets its contract: the lists are parts of the buffer, and the search is theirs.
 -- Assumes nothing.
-use Rattle.seek_text.specs.Input.{ListsRead}
-use Rattle.seek_text.specs.Search.{Prints.input-refused}
-use Rattle.seek_text.proofs.Answering.{places, answer-refused, answer-found}
+use Rattle.seek_text.specs.Seek.{Prints.input-refused}
+use Rattle.seek_text.specs.Inside.{ListsRead}
+use Rattle.seek_text.proofs.Answering.{places, one-line-printed, answer-refused, answer-found}
 use borrow.Author.Needs.{needs}
 use Rattle.seek_text.proofs.search.answer_input.Statement.{statement}
 use Rattle.seek_text.proofs.search.answer_input.Tie as tie
@@ -36,7 +36,7 @@ same-length : tie.Need-same-length
 same-length c = search needs
 
 returns : tie.Need-returns
-returns c = input-refused (rw (c .before .r .given .1) at (c .before .before .before .before .before .read-input .ensures))
+returns c = (one-line-printed _ (c .before .r .given .0 .0) (input-refused (rw (c .before .r .given .1) at (c .before .before .before .before .before .read-input .ensures))), tt)
 
 same-length-2 : tie.Need-same-length-2
 same-length-2 c = search needs
@@ -48,7 +48,7 @@ same-length-4 : tie.Need-same-length-4
 same-length-4 c = search needs
 
 returns-2 : tie.Need-returns-2
-returns-2 c = answer-refused _ _ _ _ _ _ (lists (c .before .before .before .before .before .before .before .before .before .before .before)) (c .before .r2 .given .0 .0) (rw (c .before .r2 .given .1) at (c .before .before .before .before .before .before .before .find-in .ensures))
+returns-2 c = (answer-refused _ _ _ _ _ _ (lists (c .before .before .before .before .before .before .before .before .before .before .before)) (c .before .r2 .given .0 .0) (rw (c .before .r2 .given .1) at (c .before .before .before .before .before .before .before .find-in .ensures)), tt)
 
 same-length-5 : tie.Need-same-length-5
 same-length-5 c = search needs

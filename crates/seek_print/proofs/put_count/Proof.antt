@@ -1,11 +1,11 @@
--- `seek_print::print_count` meets its contract: the pieces stand one behind the other.
+-- `seek_print::put_count` meets its contract: the pieces stand one behind the other.
 -- Assumes nothing.
 use native.Mathlib.Omega.{arith}
 use Rattle.decimal.proofs.Writing.{printed-more}
 use Rattle.seek_print.specs.Print.{countText}
 use borrow.Author.Needs.{needs}
-use Rattle.seek_print.proofs.print_count.Statement.{statement}
-use Rattle.seek_print.proofs.print_count.Tie as tie
+use Rattle.seek_print.proofs.put_count.Statement.{statement}
+use Rattle.seek_print.proofs.put_count.Tie as tie
 
 slice-aggregate-put-bytes : tie.Need-slice-aggregate-put-bytes
 slice-aggregate-put-bytes c = search needs
@@ -33,8 +33,8 @@ returns c =
       omega (arith, word .next, count .1, newline .next),
     )
 
-pub print-count-spec : {M : Type 1} → statement M
-print-count-spec =
+pub put-count-spec : {M : Type 1} → statement M
+put-count-spec =
     tie.close
     (tie.spec
     slice-aggregate-put-bytes

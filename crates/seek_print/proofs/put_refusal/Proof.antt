@@ -1,11 +1,11 @@
--- `seek_print::print_refusal` meets its contract: the pieces stand one behind the other.
+-- `seek_print::put_refusal` meets its contract: the pieces stand one behind the other.
 -- Assumes nothing.
 use native.Mathlib.Omega.{arith}
 use Rattle.decimal.proofs.Writing.{printed-more}
 use Rattle.seek_print.specs.Print.{refusalText}
 use borrow.Author.Needs.{needs}
-use Rattle.seek_print.proofs.print_refusal.Statement.{statement}
-use Rattle.seek_print.proofs.print_refusal.Tie as tie
+use Rattle.seek_print.proofs.put_refusal.Statement.{statement}
+use Rattle.seek_print.proofs.put_refusal.Tie as tie
 
 slice-aggregate-put-bytes : tie.Need-slice-aggregate-put-bytes
 slice-aggregate-put-bytes c = search needs
@@ -44,8 +44,8 @@ returns c =
       omega (arith, word .next, number .1, place .1, newline .next),
     )
 
-pub print-refusal-spec : {M : Type 1} → statement M
-print-refusal-spec =
+pub put-refusal-spec : {M : Type 1} → statement M
+put-refusal-spec =
     tie.close
     (tie.spec
     slice-aggregate-put-bytes
