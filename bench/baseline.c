@@ -1,4 +1,4 @@
-/* The calls of the library once more, in plain C, written from document 01 alone: what they are timed against. */
+/* The calls of the library once more, in plain C, written from docs/SCOPE.md alone: what they are timed against. */
 #include <stdbool.h>
 #include <stddef.h>
 #include <stdint.h>

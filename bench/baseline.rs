@@ -1,4 +1,4 @@
-//! The calls of the library once more, in plain safe Rust, written from document 01 alone: what they are timed against.
+//! The calls of the library once more, in plain safe Rust, written from docs/SCOPE.md alone: what they are timed against.
 //! A refusal is its number and its place.
 
 pub type Refusal = (u32, u64);

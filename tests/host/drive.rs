@@ -1,5 +1,5 @@
 // Drives the archive's server (serve.c) with random inputs and holds every answer, and every byte that the call left, against
-// a model of document 01 that is written from what a row means: a tree. The model shares nothing with the proved code.
+// a model of docs/SCOPE.md that is written from what a row means: a tree. The model shares nothing with the proved code.
 //
 // drive [--seed N] [--inputs N] SERVER [WORD..]: the last words start the server. Its last line is `N passed, M failed`.
 use std::io::{Read, Write};
@@ -16,7 +16,7 @@ struct Node {
     children: Vec<Node>,
 }
 
-// A refusal of document 01: number and place.
+// A refusal of docs/SCOPE.md: number and place.
 type Refused = (u32, u64);
 
 fn variable(symbol: u16) -> Option<usize> {

@@ -7,7 +7,8 @@ use native.Mathlib.Omega.{arith}
 use lib.ListN.{length, take, drop, getD, getD-replicate, List·getD-append, replicate, length-append, length-drop, length-replicate}
 use lib.Seq.{getD-append-add, take-take, take-add, take-at, drop-at, length-take-le}
 use Rattle.rows.specs.Buffers.{written}
-use Rattle.buffers.specs.Renewed.{renewed, spliced}
+use Rattle.buffers.specs.Renewed.{renewed}
+use Rattle.buffers.specs.Shift.{spliced}
 use Rattle.buffers.proofs.Written.{written-left, written-right}
 use Rattle.rows.proofs.Buffers.{length-written}
 

@@ -1,7 +1,12 @@
--- Numbers shifted along: each keeps its distance.
+-- Inside: no public contract cites what stands in this file, and no reader has to believe it.
+-- Numbers that give way to others, and numbers shifted along, each of which keeps its distance.
 use Prim.Native.Nat.{ℕ, _+_, _-_, _≤_, _<_}
-use mathlib.Core.List.{List}
-use lib.ListN.{length, getD}
+use mathlib.Core.List.{List, _++_}
+use lib.ListN.{length, getD, take, drop}
+
+-- the list `w` with the numbers from place `p` to place `e` replaced by `v`
+unfoldable pub spliced : List ℕ → ℕ → ℕ → List ℕ → List ℕ
+spliced w p e v = take p w ++ (v ++ drop e w)
 
 -- the number as far behind `to` as `x` is behind `from`
 abbrev pub shifted : ℕ → ℕ → ℕ → ℕ

@@ -1,4 +1,4 @@
-// Runs the cases of the file `stdin`: document 01's worked programmes, the sizes at their limits and the refusals. Each is
+// Runs the cases of the file `stdin`: the worked programmes of docs/SCOPE.md, the sizes at their limits and the refusals. Each is
 // one of the public calls, and what it answers and leaves in its buffers is printed.
 mod calling;
 mod replacing;

@@ -14,7 +14,7 @@ use Rattle.rows.proofs.Passing.{below}
 use Rattle.rows.specs.Tree.{Forest, Forest.none, Forest.grow, Tree, single, size, count, prefix, subtrees, subtreeAt, Ranked}
 use Rattle.rows.proofs.Tree.{length-prefix}
 use Rattle.rows.proofs.Subtrees.{length-subtrees}
-use Rattle.buffers.specs.Renewed.{spliced}
+use Rattle.buffers.specs.Shift.{spliced}
 use Rattle.edits.specs.Put.{put, extent}
 
 -- `put` and `subtreeAt` at the root, and at a position past it: among the children, or to the right

@@ -14,7 +14,8 @@ use Rattle.rows.proofs.Parse.{prefix-parse, size-parse}
 use Rattle.rows.proofs.Accept.{parse-whole}
 use Rattle.tables.specs.Given.{Right}
 use Rattle.tables.proofs.Given.{right-entry, right-bounds}
-use Rattle.buffers.specs.Renewed.{renewed, spliced}
+use Rattle.buffers.specs.Renewed.{renewed}
+use Rattle.buffers.specs.Shift.{spliced}
 use Rattle.edits.specs.Put.{put, extent, changed}
 use Rattle.edits.specs.Moved.{splicedEnds}
 use Rattle.edits.specs.Given.{Room, Movable}

@@ -22,27 +22,22 @@ alphabetPlace (Count n) = n
 alphabetPlace (Over s) = s
 alphabetPlace NoLeaf = 0
 
--- a fault in the reading of a row; of a pattern; of a replacement
+-- a fault in the reading of a list, by the numbers of the five; of a row; of a pattern; of a replacement
+abbrev pub faultNumber : (empty long stray early extra : ℕ) → Fault → ℕ
+faultNumber empty long stray early extra Empty = empty
+faultNumber empty long stray early extra (Long n) = long
+faultNumber empty long stray early extra (Stray p) = stray
+faultNumber empty long stray early extra (Early n) = early
+faultNumber empty long stray early extra (Extra p) = extra
+
 abbrev pub rowNumber : Fault → ℕ
-rowNumber Empty = 4
-rowNumber (Long n) = 5
-rowNumber (Stray p) = 7
-rowNumber (Early n) = 8
-rowNumber (Extra p) = 9
+rowNumber f = faultNumber 4 5 7 8 9 f
 
 abbrev pub patternNumber : Fault → ℕ
-patternNumber Empty = 11
-patternNumber (Long n) = 12
-patternNumber (Stray p) = 13
-patternNumber (Early n) = 14
-patternNumber (Extra p) = 15
+patternNumber f = faultNumber 11 12 13 14 15 f
 
 abbrev pub replacementNumber : Fault → ℕ
-replacementNumber Empty = 24
-replacementNumber (Long n) = 25
-replacementNumber (Stray p) = 27
-replacementNumber (Early n) = 28
-replacementNumber (Extra p) = 29
+replacementNumber f = faultNumber 24 25 27 28 29 f
 
 abbrev pub faultPlace : Fault → ℕ
 faultPlace Empty = 0

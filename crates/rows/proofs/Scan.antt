@@ -11,7 +11,8 @@ use lib.Dec.{ltb, eqb}
 use lib.ListN.{length, getD, take, drop, length-drop, drop-of-length-le}
 use lib.Seq.{drop-cons, length-take-le, getD-take, getD-drop}
 use borrow.Author.Tests.{lt-ltb, le-ltb, ltb-false}
-use Rattle.rows.specs.Row.{pick, verdict, ReadTo, SymbolsTo, allowed, sized}
+use Rattle.rows.specs.Row.{pick, verdict, allowed, sized}
+use Rattle.rows.specs.Reading.{ReadTo, SymbolsTo}
 use Rattle.rows.specs.declared.Leaves.{Leaves}
 use Rattle.rows.specs.declared.Leaves.the-variants.{Symbols, Blanks}
 use Rattle.rows.specs.Refusals.{aritiesFit, someLeaf}

@@ -2,7 +2,9 @@ pub mod Limits
 pub mod Tree
 pub mod Parse
 pub mod Row
+pub mod Reading
 pub mod Programme
 pub mod Refusals
 pub mod Buffers
+pub mod Notation
 pub mod Promises

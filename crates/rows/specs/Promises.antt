@@ -2,40 +2,21 @@
 -- the same name in small letters.
 use Prim.Native.Nat.{ℕ, _-_, _≤_, _<_}
 use mathlib.Core.Path.{_≡_}
-use mathlib.Core.List.{List, [], _++_}
+use mathlib.Core.List.{List}
 use mathlib.Core.Bool.{Bool}
-use mathlib.Core.Logic.{_↔_}
 use lib.ListN.{length, getD, take, drop}
 use Rattle.rows.specs.Limits.{alphabetMost, arityMost, rowMost, patternMost, blank, firstVariable, variables, spanPlaces, freedSymbol, freedEntry}
-use Rattle.rows.specs.Tree.{Tree, single, prefix, Ranked, IsRow, ends, subtreeAt}
+use Rattle.rows.specs.Tree.{Tree, single, prefix, Ranked, IsRow, subtreeAt}
 use Rattle.rows.specs.Parse.{parse, treeOf, table}
-use Rattle.rows.specs.Row.{verdict, Checks, Every}
-use Rattle.rows.specs.declared.Verdict.the-variants.{Whole}
-
--- reading from left to right accepts exactly the prefix notations of ranked trees, whichever numbers may stand
-abbrev pub Reads-rows : Type 0
-Reads-rows = (A : List ℕ) (ok : ℕ → Bool) (w : List ℕ) → (verdict A ok 1 0 w ≡ Whole) ↔ IsRow A ok w
-
--- the checksum rule says the same: the numbers may stand, the checksum is 0, and that of each shorter beginning is at least 1
-abbrev pub Checksum-rule : Type 0
-Checksum-rule = (A : List ℕ) (ok : ℕ → Bool) (w : List ℕ) → IsRow A ok w ↔ (Every ok w × Checks A w)
 
 -- a row is the prefix notation of one tree only
 abbrev pub One-tree : Type 0
 One-tree = (A : List ℕ) (ok : ℕ → Bool) (t u : Tree) → Ranked A ok (single t) → Ranked A ok (single u)
     → prefix (single t) ≡ prefix (single u) → t ≡ u
 
--- no row is a proper beginning of another
-abbrev pub No-beginning : Type 0
-No-beginning = (A : List ℕ) (ok : ℕ → Bool) (w v : List ℕ) → IsRow A ok w → IsRow A ok (w ++ v) → v ≡ []
-
 -- `parse` and `treeOf` find a row's tree
 abbrev pub Tree-of-row : Type 0
 Tree-of-row = (A : List ℕ) (ok : ℕ → Bool) (w : List ℕ) (r : IsRow A ok w) → (parse A w ≡ single (r .tree)) × (treeOf A w ≡ r .tree)
-
--- the table of a row holds the ends of its tree's subtrees
-abbrev pub Table-of-row : Type 0
-Table-of-row = (A : List ℕ) (ok : ℕ → Bool) (w : List ℕ) (r : IsRow A ok w) → table A w ≡ ends 0 (single (r .tree))
 
 -- p < entry p ≤ length; the symbols from p up to it are the row of the subtree at p; and no other end makes them a row
 pub record Entry (A : List ℕ) (ok : ℕ → Bool) (w : List ℕ) (t : Tree) (p e : ℕ) : Type 0 where

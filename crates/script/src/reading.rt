@@ -1,7 +1,7 @@
 // A case's line: a word, then lists of numbers with a bar between each two. In a list
 //     7          is a number, and 7x10 is ten times 7;
 //     S and X3   are the subtree mark and the variable 3, which are 65535 and 65283;
-//     A, T, E    are alphabet A and row T of document 01, and the ends of T's subtrees, which are its table.
+//     A, T, E    are alphabet A and row T of docs/SCOPE.md, and the ends of T's subtrees, which are its table.
 ghost use mathlib.Core.Path.{_≡_};
 ghost use Prim.Native.Nat.{_≤_};
 ghost use lib.ListN.{length};

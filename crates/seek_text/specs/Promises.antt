@@ -5,6 +5,7 @@ use mathlib.Core.List.{List}
 use mathlib.Core.Logic.{_↔_}
 use lib.ListN.{length}
 use Rattle.rows.specs.declared.Refusal.{Refusal}
+use Rattle.rows.specs.Buffers.{One}
 use Rattle.seek_text.specs.Seek.{inputMost, Says, Refuses, Prints}
 use Rattle.seek_text.specs.Pages.{linesOf, Answered, Pages}
 use Rattle.seek_text.specs.declared.search.Response.{Response}
@@ -17,12 +18,6 @@ Text-says = (b A w q A′ w′ q′ : List ℕ) → Says b A w q → Says b A′
 -- three lists.
 abbrev pub Input-accepted : Type 0
 Input-accepted = (b : List ℕ) → ((r : Refusal) → Refuses b r → ⊥) ↔ ((length b ≤ inputMost) × ((A w q : List ℕ) × Says b A w q))
-
--- there is one, and no other
-pub record One {X : Type 0} (P : X → Type 0) : Type 0 where
-  pub some : X
-  pub holds : P some
-  pub only : (x : X) → P x → x ≡ some
 
 -- For every input, whatever its bytes, there is one text that `seek` prints, and no other.
 abbrev pub Seek-one : Type 0

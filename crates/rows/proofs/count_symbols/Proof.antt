@@ -4,7 +4,7 @@ use Prim.Native.Nat.{ℕ, _+_, _-_, _≤_, _<_}
 use mathlib.Core.Path.{_≡_, subst}
 use native.Mathlib.Omega.{arith}
 use lib.ListN.{length, getD, take, drop}
-use Rattle.rows.specs.Row.{SymbolsTo}
+use Rattle.rows.specs.Reading.{SymbolsTo}
 use Rattle.rows.proofs.Scan.{symbols-more}
 use borrow.Author.Needs.{needs}
 use Rattle.rows.proofs.count_symbols.Statement.{statement}

@@ -3,7 +3,8 @@
 use mathlib.Core.Path.{sym, _∙_, subst}
 use Prim.Native.Nat.{ℕ, _+_}
 use native.Mathlib.Omega.{arith}
-use Rattle.rows.specs.Row.{ReadTo, allowed}
+use Rattle.rows.specs.Row.{allowed}
+use Rattle.rows.specs.Reading.{ReadTo}
 use Rattle.rows.proofs.Scan.{read-extra, read-stray, read-next}
 use borrow.Author.Needs.{needs}
 use Rattle.rows.proofs.read_at.Statement.{statement}

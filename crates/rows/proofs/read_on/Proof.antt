@@ -3,7 +3,8 @@
 use Prim.Native.Nat.{_-_}
 use mathlib.Core.Path.{sym, _∙_, subst}
 use lib.ListN.{length}
-use Rattle.rows.specs.Row.{ReadTo, Reads, allowed}
+use Rattle.rows.specs.Row.{allowed}
+use Rattle.rows.specs.Reading.{ReadTo, Reads}
 use Rattle.rows.proofs.Scan.{read-done}
 use borrow.Author.Needs.{needs}
 use Rattle.rows.proofs.read_on.Statement.{statement}

@@ -6,7 +6,8 @@ use native.Mathlib.Omega.{arith}
 use borrow.Author.Tests.{eqb-false}
 use mathlib.Core.List.{List}
 use lib.ListN.{length, getD}
-use Rattle.rows.specs.Row.{ReadTo, allowed}
+use Rattle.rows.specs.Row.{allowed}
+use Rattle.rows.specs.Reading.{ReadTo}
 use Rattle.rows.specs.declared.Leaves.{Leaves}
 use Rattle.rows.specs.declared.Leaves.the-variants.{Symbols}
 use Rattle.rows.proofs.Scan.{read-start, read-next, allowed-symbol}

@@ -7,7 +7,8 @@ use mathlib.Core.Path.{_≡_, sym, ap, _∙_, subst}
 use native.Mathlib.Omega.{arith}
 use lib.ListN.{length, getD}
 use borrow.Author.Tests.{lt-ltb, le-ltb}
-use Rattle.rows.specs.Row.{verdict, ReadTo, symbol}
+use Rattle.rows.specs.Row.{verdict, symbol}
+use Rattle.rows.specs.Reading.{ReadTo}
 use Rattle.rows.proofs.Scan.{read-extra, read-stray, read-next, read-done}
 use Rattle.wire.specs.Wire.{numbers}
 use borrow.Author.Needs.{needs}
