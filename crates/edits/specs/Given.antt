@@ -1,5 +1,5 @@
--- Inside: no public contract cites what stands in this file, and no reader has to believe it. What the parts of a replacement ask
--- for.
+-- Inside: no public contract cites what stands in this file, and no reader has to believe it.
+-- What the parts of a replacement ask for.
 use Prim.Native.Nat.{ℕ, _+_, _-_, _≤_, _<_}
 use mathlib.Core.List.{List}
 use lib.ListN.{length, getD}

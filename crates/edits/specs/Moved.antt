@@ -1,4 +1,5 @@
--- Inside: no public contract cites what stands in this file, and no reader has to believe it. The ends in a table once a subtree that ended at `e` ends at `to`.
+-- Inside: no public contract cites what stands in this file, and no reader has to believe it.
+-- The ends in a table once a subtree that ended at `e` ends at `to`.
 use Prim.Native.Nat.{ℕ}
 use mathlib.Core.List.{List, _++_, map}
 use lib.Dec.{ltb}

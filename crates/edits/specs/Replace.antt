@@ -1,5 +1,5 @@
--- Inside: no public contract cites what stands in this file, and no reader has to believe it. What a replacement asks for, and what
--- it leaves.
+-- Inside: no public contract cites what stands in this file, and no reader has to believe it.
+-- What a replacement asks for, and what it leaves.
 use Prim.Native.Nat.{ℕ, _≤_, _<_}
 use mathlib.Core.Path.{_≡_}
 use mathlib.Core.List.{List}

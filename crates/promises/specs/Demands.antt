@@ -131,8 +131,8 @@ abbrev pub Replace-refused : Type 0
 Replace-refused = (a : Alphabet) (P : Programme) (n : ℕ) (v : List ℕ) (p : ℕ) (r : Replaced) (P′ : Programme) → Replacement a P n v p r P′
     → (k x : ℕ) → replacedSaid r ≡ refused k x → P′ ≡ P
 
--- "A call that reads a table refuses it as stale if an entry differs from the row's": nothing from 1 to 9 (41 to 49 of the row on
--- record) is wrong with a row of n symbols, and p is the first position where its table differs;
+-- "A call that reads a table refuses it as stale if an entry differs from the row's": nothing from 1 to 9 is wrong with a row of n
+-- symbols, and p is the first position where its table differs.
 pub record StaleAt (a : Alphabet) (P : Programme) (n p : ℕ) : Type 0 where
   pub earlier : alphabet a then sizes Row n (room P) then symbols Row (a .arities) (front n P .row) ≡ Fine
   pub first : FirstStale (a .arities) (front n P .row) (P .table) p
@@ -358,7 +358,6 @@ Either-order = (a : Alphabet) (P : Programme) (n : ℕ) (u : List ℕ) (p : ℕ)
 -- ==== ALL OF THEM
 
 pub record Demands : Type 0 where
-  -- 1. Every input gets one outcome;
   pub build-one : Build-one
   pub find-one : Find-one
   pub variables-one : Variables-one
@@ -368,7 +367,6 @@ pub record Demands : Type 0 where
   pub newer-one : Newer-one
   pub newer-place-one : Newer-place-one
   pub plain-one : Plain-one
-  -- a faulty one is refused, with the first number in the order and its place;
   pub table : Table
   pub build-order : Build-order
   pub find-order : Find-order
@@ -378,46 +376,36 @@ pub record Demands : Type 0 where
   pub newer-order : Newer-order
   pub plain-order : Plain-order
   pub find-short : Find-short
-  -- a refusal writes nothing;
   pub build-refused : Build-refused
   pub find-refused : Find-refused
   pub variables-refused : Variables-refused
   pub replace-refused : Replace-refused
-  -- a stale table is refused; a refused corrected row does not fall through.
   pub find-stale : Find-stale
   pub variables-stale : Variables-stale
   pub replace-stale : Replace-stale
   pub subtree-stale : Subtree-stale
   pub newer-stale : Newer-stale
   pub newer-refused : Newer-refused
-  -- 2. A row is accepted exactly if it is the prefix notation of a ranked tree, of one only;
   pub rows-accepted : Rows-accepted
   pub patterns-accepted : Patterns-accepted
   pub replacements-accepted : Replacements-accepted
   pub one-tree : One-tree
   pub tree-of-row : Tree-of-row
-  -- build accepts such rows, and leaves the ends of the subtrees;
   pub build-accepts : Build-accepts
   pub build-writes : Build-writes
-  -- what is listed, matched and returned is exactly what some choice of trees makes;
   pub find-lists : Find-lists
   pub variables-exactly : Variables-exactly
   pub plain-exactly : Plain-exactly
-  -- plain matcher and find agree;
   pub plain-finds : Plain-finds
   pub plain-refuses : Plain-refuses
-  -- parts lie in the row where the companions say.
   pub subtree-part : Subtree-part
   pub subtree-empty : Subtree-empty
   pub newer-part : Newer-part
   pub newer-empty : Newer-empty
-  -- 3. Each replacement leaves what it answers, and any run of them the row and the table of the changed tree;
   pub replace-writes : Replace-writes
   pub after-run : After-run
-  -- a subtree beside the replaced one keeps its answers and variables;
   pub variables-stay : Variables-stay
   pub find-stays : Find-stays
   pub plain-stays : Plain-stays
-  -- putting the old subtree back restores the lists; disjoint replacements can be made in either order.
   pub putting-back : Putting-back
   pub either-order : Either-order

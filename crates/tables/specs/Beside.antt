@@ -1,3 +1,4 @@
+-- Inside: no public contract cites what stands in this file, and no reader has to believe it.
 -- What a pass from right to left over a row and its table keeps: the ends of the trees that stand side by side, and the first
 -- entry that is not the row's.
 use Prim.Native.Nat.{ℕ, _+_}

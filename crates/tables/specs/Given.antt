@@ -1,3 +1,4 @@
+-- Inside: no public contract cites what stands in this file, and no reader has to believe it.
 -- What the checks leave to go on with, and what filling a table asks for.
 use Prim.Native.Nat.{ℕ, _+_, _≤_}
 use mathlib.Core.Path.{_≡_}

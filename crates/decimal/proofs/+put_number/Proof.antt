@@ -105,7 +105,8 @@ put-number-put-byte-requires-2 : (t : ℕ) → put-number-lts.Need-put-byte-requ
   put-number.Post,
 ) (put-number-at t) put-number.Post
 put-number-put-byte-requires-2 t c κs =
-    omega (arith, c .before .before .before .before .before .before .before .pre .1, shorter (c .before .before .before .before .before .before .before .args .n) (c .before .before .before .before .before .if1 .left), c .before .before .before .put-number .ensures .next, c .before .before .before .put-number .kept .0)
+    let start = c .before .before .before .before .before .before .before in
+    omega (arith, start .pre .1, shorter (start .args .n) (c .before .before .before .before .before .if1 .left), c .before .before .before .put-number .ensures .next, c .before .before .before .put-number .kept .0)
 
 put-number-same-length-2 : (t : ℕ) → put-number-lts.Need-same-length-2 (
   put-byte.Asked,
@@ -122,10 +123,13 @@ put-number-returns-2 : (t : ℕ) → put-number-lts.Need-returns-2 (
   put-number.Post,
 ) (put-number-at t) put-number.Post
 put-number-returns-2 t c =
+    let at-if = c .before .before .before .before .before .before .before .before in
+    let start = c .before .before .before .before .before .before .before .before .before .before in
+    let at-put-number = c .before .before .before .before .before .before in
     let a = c .before .before .before .before .before .before .before .before .before .before .args in
-    let l = c .before .before .before .before .before .before .before .before .if1 .left in
+    let l = at-if .if1 .left in
     rw (numeral-more (a .n) l)
-    (printed-more (omega (arith, c .before .before .before .before .before .before .before .before .before .before .pre .1, c .before .before .before .before .before .before .put-number .ensures .next, shorter (a .n) l)) (c .before .before .before .before .before .before .put-number .ensures) (c .before .before .put-byte2 .ensures))
+    (printed-more (omega (arith, start .pre .1, at-put-number .put-number .ensures .next, shorter (a .n) l)) (at-put-number .put-number .ensures) (c .before .before .put-byte2 .ensures))
 
 pub +put-number-spec : {M : Type 1} → statement M
 +put-number-spec = close μ-put-number λ t. put-number-lts.spec (

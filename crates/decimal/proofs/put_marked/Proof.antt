@@ -12,16 +12,19 @@ put-byte-requires c κs = search needs
 
 put-number-requires : tie.Need-put-number-requires
 put-number-requires c κs =
-    omega (arith, c .before .before .before .put-byte .ensures .next, c .before .before .before .put-byte .kept .0, numeral-word (c .before .before .before .before .before .before .args .n) (c .before .before .before .before .before .before .fits .n .fits))
+    let start = c .before .before .before .before .before .before in
+    omega (arith, c .before .before .before .put-byte .ensures .next, c .before .before .before .put-byte .kept .0, numeral-word (start .args .n) (start .fits .n .fits))
 
 same-length : tie.Need-same-length
 same-length c = search needs
 
 returns : tie.Need-returns
 returns c =
+    let at-put-byte = c .before .before .before .before .before .before in
+    let start = c .before .before .before .before .before .before .before .before .before in
     let a = c .before .before .before .before .before .before .before .before .before .args in (
-      printed-more (omega (arith, c .before .before .before .before .before .before .put-byte .ensures .next)) (c .before .before .before .before .before .before .put-byte .ensures) (c .before .before .put-number .ensures),
-      omega (arith, c .before .before .before .before .before .before .put-byte .ensures .next, c .before .before .put-number .ensures .next, numeral-word (a .n) (c .before .before .before .before .before .before .before .before .before .fits .n .fits)),
+      printed-more (omega (arith, at-put-byte .put-byte .ensures .next)) (at-put-byte .put-byte .ensures) (c .before .before .put-number .ensures),
+      omega (arith, at-put-byte .put-byte .ensures .next, c .before .before .put-number .ensures .next, numeral-word (a .n) (start .fits .n .fits)),
     )
 
 pub put-marked-spec : {M : Type 1} → statement M

@@ -24,7 +24,9 @@ stood c = (rw (c .before .value .given .1) at (c .before .before .before .number
 
 within : (c : tie.After-known-told Inv-loop μ-loop)
     → (c .before .before .before .before .loop .at < c .before .value .given .0 .1 .0 .at) × (c .before .value .given .0 .1 .0 .at < length (c .before .before .before .before .before .before .before .before .before .args .text .now))
-within c = stands-within (c .before .before .before .before .before .before .before .before .before .args .text .now) (c .before .before .before .before .loop .at) _ _ (stood c)
+within c =
+    let start = c .before .before .before .before .before .before .before .before .before in
+    stands-within (start .args .text .now) (c .before .before .before .before .loop .at) _ _ (stood c)
 
 -- the first byte of an empty line is the newline
 newline : (c : tie.Then1 Inv-loop μ-loop) → getD (c .before .before .before .before .args .text .now) (c .before .before .before .before .args .from .at) 0 ≡ 10
@@ -84,15 +86,21 @@ byte-at-requires-2 : tie.Need-byte-at-requires-2 Inv-loop μ-loop
 byte-at-requires-2 c κs = search needs
 
 add-t22 : tie.Need-add-t22 Inv-loop μ-loop
-add-t22 c = omega (arith, within (c .before .before), c .before .before .before .before .before .before .loop .inv .behind, c .before .before .before .before .before .before .before .before .before .before .before .pre .lines)
+add-t22 c =
+    let at-loop = c .before .before .before .before .before .before in
+    let start = c .before .before .before .before .before .before .before .before .before .before .before in
+    omega (arith, within (c .before .before), at-loop .loop .inv .behind, start .pre .lines)
 
 same-length-2 : tie.Need-same-length-2 Inv-loop μ-loop
-same-length-2 c = simp length-set (c .before .before .before .before .before .before .loop .inv .size)
+same-length-2 c =
+    let at-loop = c .before .before .before .before .before .before in
+    simp length-set (at-loop .loop .inv .size)
 
 returns-3 : tie.Need-returns-3 Inv-loop μ-loop
 returns-3 c =
+    let at-loop = c .before .before .before .before .before .before in
     let a = c .before .before .before .before .before .before .before .before .before .before .before .args in
-    let l = c .before .before .before .before .before .before .loop in
+    let l = at-loop .loop in
     line-read (a .text .now) (a .out .now) (a .from) (a .first) (l .out) (l .at) (l .count) (l .inv) _ _ (stood (c .before .before)) (sym (c .before .byte-at2 .ensures) ∙ c .if2 .taken)
 
 loop-less : tie.Need-loop-less Inv-loop μ-loop
@@ -100,8 +108,9 @@ loop-less c = omega (arith, within (c .before .before))
 
 loop-again : tie.Need-loop-again Inv-loop μ-loop
 loop-again c =
+    let at-loop = c .before .before .before .before .before .before in
     let a = c .before .before .before .before .before .before .before .before .before .before .before .args in
-    let l = c .before .before .before .before .before .before .loop in
+    let l = at-loop .loop in
     sofar-more (a .text .now) (a .out .now) (a .from) (a .first) (l .out) (l .at) (l .count) (l .inv) _ _ (stood (c .before .before)) (λ e. c .if2 .left (c .before .byte-at2 .ensures ∙ e))
 
 pub read-line-spec : {M : Type 1} → statement M

@@ -50,6 +50,7 @@ cast-shift-2 c = search needs
 
 shift-requires : tie.Need-shift-requires
 shift-requires c κs =
+    let at-move-holders = c .before .before .before .before .before .before .before in
     let s = c .before .before .before .before .before .before .before .before .before .before .before in
     let t = now (s .args .table) in
     let n = s .args .n in
@@ -58,7 +59,7 @@ shift-requires c κs =
     let to = s .args .to in
     rw (
       c .before .before .before .move-part .ensures,
-      c .before .before .before .before .before .before .before .move-holders .ensures,
+      at-move-holders .move-holders .ensures,
       drop-held t n p e to (s .pre),
     )
     (tail-shiftable t n p e to (s .pre))
@@ -68,12 +69,14 @@ same-length c = search needs
 
 returns-2 : tie.Need-returns-2
 returns-2 c =
+    let at-move-part = c .before .before .before .before .before .before in
+    let at-move-holders = c .before .before .before .before .before .before .before .before .before .before in
     let s = c .before .before .before .before .before .before .before .before .before .before .before .before .before .before in
     let t = now (s .args .table) in
     rw (
       c .before .before .shift .ensures,
-      c .before .before .before .before .before .before .move-part .ensures,
-      c .before .before .before .before .before .before .before .before .before .before .move-holders .ensures,
+      at-move-part .move-part .ensures,
+      at-move-holders .move-holders .ensures,
       drop-held t (s .args .n) (s .args .p) (s .args .e) (s .args .to) (s .pre),
     )
     (tail-shifted t (s .args .n) (s .args .p) (s .args .e) (s .args .to) (s .pre))

@@ -52,9 +52,10 @@ same-length-2 c = search needs
 
 returns : tie.Need-returns
 returns c =
+    let at-replace-symbols = c .before .before .before .before .before .before in
     let s = c .before .before .before .before .before .before .before .before .before .before .before .before .before in
     replaced (now (s .args .arities)) (now (s .args .row)) (now (s .args .table)) (s .args .n) (now (s .args .v)) (s .args .p) (s .pre) _ _ _
-    (c .before .before .before .before .before .before .replace-symbols .ensures)
+    (at-replace-symbols .replace-symbols .ensures)
     (c .before .before .replace-ends .ensures)
     refl
 

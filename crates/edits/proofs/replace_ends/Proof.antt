@@ -44,6 +44,8 @@ same-length c = search needs
 
 returns : tie.Need-returns
 returns c =
+    let at-fill-ends = c .before .before .before .before .before .before in
+    let at-move-ends = c .before .before .before .before .before .before .before .before .before .before in
     let s = c .before .before .before .before .before .before .before .before .before .before .before .before .before .before .before in
     let t = now (s .args .table) in
     let v = now (s .args .v) in
@@ -58,8 +60,8 @@ returns c =
     let lt : length tail ≡ n - e = length-map (take (n - e) (drop e t)) (shifted e to) ∙ length-tail t n p e to m in
     rw (
       c .before .before .fill .ensures,
-      c .before .before .before .before .before .before .fill-ends .ensures,
-      c .before .before .before .before .before .before .before .before .before .before .move-ends .ensures,
+      at-fill-ends .fill-ends .ensures,
+      at-move-ends .move-ends .ensures,
     )
     (renewed-parts t n 0 p to (to + (n - e)) (map (moved e to) (take p t)) new tail (length-before t n p e to m) (omega arith) (omega arith) (omega arith) (omega arith)
     ∙ ap (renewed t n 0) (sym (splicedEnds-front t n p e to new (omega arith) (omega arith) (omega arith))))

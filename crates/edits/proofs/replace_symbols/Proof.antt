@@ -50,6 +50,8 @@ same-length c = search needs
 
 returns : tie.Need-returns
 returns c =
+    let at-copy-into = c .before .before .before .before .before .before in
+    let at-move-part = c .before .before .before .before .before .before .before .before .before .before in
     let s = c .before .before .before .before .before .before .before .before .before .before .before .before .before .before in
     let b = now (s .args .row) in
     let v = now (s .args .v) in
@@ -63,8 +65,8 @@ returns c =
     let kept : written b 0 (take p b) ≡ b = written-still b 0 p (omega arith) in
     rw (
       c .before .before .fill .ensures,
-      c .before .before .before .before .before .before .copy-into .ensures,
-      c .before .before .before .before .before .before .before .before .before .before .move-part .ensures,
+      at-copy-into .copy-into .ensures,
+      at-move-part .move-part .ensures,
     )
     (ap (λ (l : List ℕ). written l m blanks) (lent-tail (written b (p + length v) tail) p v)
     ∙ ap (λ (l : List ℕ). written (written (written l (p + length v) tail) p v) m blanks) (sym kept)

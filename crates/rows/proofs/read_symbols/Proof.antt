@@ -83,13 +83,19 @@ shared-slice-read-due : tie.Need-shared-slice-read-due Inv-loop μ-loop
 shared-slice-read-due c = search needs
 
 cast-due : tie.Need-cast-due Inv-loop μ-loop
-cast-due c = omega (arith, c .shared-slice-known3 .given (c .before .before .before .before .before .before .loop .i + 1))
+cast-due c =
+    let at-loop = c .before .before .before .before .before .before in
+    omega (arith, c .shared-slice-known3 .given (at-loop .loop .i + 1))
 
 mul-due-2 : tie.Need-mul-due-2 Inv-loop μ-loop
-mul-due-2 c = omega (arith, c .shared-slice-known3 .given (c .before .before .before .before .before .before .loop .i + 1))
+mul-due-2 c =
+    let at-loop = c .before .before .before .before .before .before in
+    omega (arith, c .shared-slice-known3 .given (at-loop .loop .i + 1))
 
 shared-slice-read-due-2 : tie.Need-shared-slice-read-due-2 Inv-loop μ-loop
-shared-slice-read-due-2 c = is-symbol (c .before .before .before .before .before .before) _ (c .before .before .before .before .before .before .loop-test .taken)
+shared-slice-read-due-2 c =
+    let at-loop-test = c .before .before .before .before .before .before in
+    is-symbol (c .before .before .before .before .before .before) _ (at-loop-test .loop-test .taken)
 
 cast-due-2 : tie.Need-cast-due-2 Inv-loop μ-loop
 cast-due-2 c = let i = c .before .before .before .before .before .before in omega (arith, c .shared-slice-known4 .given (getD (W i) (i .before .loop .i + 1) 0))

@@ -28,7 +28,8 @@ loop-holds c =
 
 print-page-requires : tie.Need-print-page-requires Inv-loop μ-loop
 print-page-requires c κs =
-    let h = c .before .before .before .before .before .before .before .before .pre in
+    let start = c .before .before .before .before .before .before .before .before in
+    let h = start .pre in
     let l = c .before .before .loop .inv in
     (h .0, omega (arith, l .0, l .1), omega (arith, h .1, l .2))
 
@@ -36,21 +37,26 @@ write-out-requires : tie.Need-write-out-requires Inv-loop μ-loop
 write-out-requires c κs = c .before .before .before .print-page .ensures .bytes
 
 same-length : tie.Need-same-length Inv-loop μ-loop
-same-length c = c .before .before .before .before .before .print-page .kept .1 .1 .1 .1 .1 .0 ∙ c .before .before .before .before .before .before .before .before .loop .inv .2
+same-length c =
+    let at-loop = c .before .before .before .before .before .before .before .before in
+    c .before .before .before .before .before .print-page .kept .1 .1 .1 .1 .1 .0 ∙ at-loop .loop .inv .2
 
 returns : tie.Need-returns Inv-loop μ-loop
 returns c = search needs
 
 loop-less : tie.Need-loop-less Inv-loop μ-loop
 loop-less c =
+    let at-loop = c .before .before .before .before .before .before .before .before in
+    let at-loop-test = c .before .before .before .before .before .before .before in
     let page = c .before .before .before .before .before .print-page .ensures in
-    let l = c .before .before .before .before .before .before .before .before .loop .inv in
-    let t = c .before .before .before .before .before .before .before .loop-test .taken in
+    let l = at-loop .loop .inv in
+    let t = at-loop-test .loop-test .taken in
     omega (arith, page .more (omega (arith, t, l .1)), page .within, l .1)
 
 loop-again : tie.Need-loop-again Inv-loop μ-loop
 loop-again c =
-    let l = c .before .before .before .before .before .before .before .before .loop .inv in
+    let at-loop = c .before .before .before .before .before .before .before .before in
+    let l = at-loop .loop .inv in
     (omega (arith, c .before .before .before .before .before .print-page .ensures .within, l .1), l .1, c .before .before .before .before .before .print-page .kept .1 .1 .1 .1 .1 .0 ∙ l .2)
 
 same-length-2 : tie.Need-same-length-2 Inv-loop μ-loop

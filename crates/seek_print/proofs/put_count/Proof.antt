@@ -25,11 +25,14 @@ same-length c = search needs
 returns : tie.Need-returns
 unfolding countText
 returns c =
-    let word = c .before .before .before .before .before .before .before .before .before .before .put-bytes .ensures in
-    let count = c .before .before .before .before .before .before .put-marked .ensures in
+    let at-put-bytes = c .before .before .before .before .before .before .before .before .before .before in
+    let at-put-marked = c .before .before .before .before .before .before in
+    let start = c .before .before .before .before .before .before .before .before .before .before .before .before .before .before in
+    let word = at-put-bytes .put-bytes .ensures in
+    let count = at-put-marked .put-marked .ensures in
     let newline = c .before .before .put-byte .ensures in (
-      printed-more (omega (arith, c .before .before .before .before .before .before .before .before .before .before .before .before .before .before .pre, word .next)) word
-          (printed-more (omega (arith, c .before .before .before .before .before .before .before .before .before .before .before .before .before .before .pre, word .next, c .before .before .before .before .before .before .before .before .before .before .put-bytes .kept .0, count .1)) (count .0) newline),
+      printed-more (omega (arith, start .pre, word .next)) word
+          (printed-more (omega (arith, start .pre, word .next, at-put-bytes .put-bytes .kept .0, count .1)) (count .0) newline),
       omega (arith, word .next, count .1, newline .next),
     )
 

@@ -31,15 +31,20 @@ same-length c = search needs
 returns : tie.Need-returns
 unfolding matchText
 returns c =
-    let word = c .before .before .before .before .before .before .before .before .before .before .before .before .before .before .before .before .before .before .put-bytes .ensures in
-    let position = c .before .before .before .before .before .before .before .before .before .before .before .before .before .before .put-marked .ensures in
-    let end = c .before .before .before .before .before .before .before .before .before .before .put-marked2 .ensures in
-    let spans = c .before .before .before .before .before .before .put-spans .ensures in
+    let at-put-bytes = c .before .before .before .before .before .before .before .before .before .before .before .before .before .before .before .before .before .before in
+    let at-put-marked = c .before .before .before .before .before .before .before .before .before .before .before .before .before .before in
+    let at-put-marked2 = c .before .before .before .before .before .before .before .before .before .before in
+    let at-put-spans = c .before .before .before .before .before .before in
+    let start = c .before .before .before .before .before .before .before .before .before .before .before .before .before .before .before .before .before .before .before .before .before .before .before in
+    let word = at-put-bytes .put-bytes .ensures in
+    let position = at-put-marked .put-marked .ensures in
+    let end = at-put-marked2 .put-marked2 .ensures in
+    let spans = at-put-spans .put-spans .ensures in
     let newline = c .before .before .put-byte .ensures in
-    let k₁ = c .before .before .before .before .before .before .before .before .before .before .before .before .before .before .before .before .before .before .put-bytes .kept .0 in
-    let k₂ = c .before .before .before .before .before .before .before .before .before .before .before .before .before .before .put-marked .kept .0 in
-    let k₃ = c .before .before .before .before .before .before .before .before .before .before .put-marked2 .kept .0 in
-    let h = c .before .before .before .before .before .before .before .before .before .before .before .before .before .before .before .before .before .before .before .before .before .before .before .pre .0 in (
+    let k₁ = at-put-bytes .put-bytes .kept .0 in
+    let k₂ = at-put-marked .put-marked .kept .0 in
+    let k₃ = at-put-marked2 .put-marked2 .kept .0 in
+    let h = start .pre .0 in (
       printed-more (omega (arith, h, word .next)) word
           (printed-more (omega (arith, h, word .next, k₁, position .1)) (position .0)
           (printed-more (omega (arith, h, word .next, k₁, position .1, k₂, end .1)) (end .0)

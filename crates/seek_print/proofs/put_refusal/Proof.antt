@@ -34,13 +34,19 @@ same-length c = search needs
 returns : tie.Need-returns
 unfolding refusalText
 returns c =
-    let word = c .before .before .before .before .before .before .before .before .before .before .before .before .before .before .before .before .put-bytes .ensures in
-    let number = rw (c .before .before .before .before .before .before .before .before .before .before .before .before .number-of .ensures) at (c .before .before .before .before .before .before .before .before .before .before .before .put-marked .ensures) in
-    let place = rw (c .before .before .before .before .before .before .before .place-of .ensures) at (c .before .before .before .before .before .before .put-marked2 .ensures) in
+    let at-put-bytes = c .before .before .before .before .before .before .before .before .before .before .before .before .before .before .before .before in
+    let at-number-of = c .before .before .before .before .before .before .before .before .before .before .before .before in
+    let at-put-marked = c .before .before .before .before .before .before .before .before .before .before .before in
+    let at-place-of = c .before .before .before .before .before .before .before in
+    let at-put-marked2 = c .before .before .before .before .before .before in
+    let start = c .before .before .before .before .before .before .before .before .before .before .before .before .before .before .before .before .before .before .before .before in
+    let word = at-put-bytes .put-bytes .ensures in
+    let number = rw (at-number-of .number-of .ensures) at (at-put-marked .put-marked .ensures) in
+    let place = rw (at-place-of .place-of .ensures) at (at-put-marked2 .put-marked2 .ensures) in
     let newline = c .before .before .put-byte .ensures in (
-      printed-more (omega (arith, c .before .before .before .before .before .before .before .before .before .before .before .before .before .before .before .before .before .before .before .before .pre, word .next)) word
-          (printed-more (omega (arith, c .before .before .before .before .before .before .before .before .before .before .before .before .before .before .before .before .before .before .before .before .pre, word .next, c .before .before .before .before .before .before .before .before .before .before .before .before .before .before .before .before .put-bytes .kept .0, number .1)) (number .0)
-          (printed-more (omega (arith, c .before .before .before .before .before .before .before .before .before .before .before .before .before .before .before .before .before .before .before .before .pre, word .next, c .before .before .before .before .before .before .before .before .before .before .before .before .before .before .before .before .put-bytes .kept .0, number .1, c .before .before .before .before .before .before .before .before .before .before .before .put-marked .kept .0, place .1)) (place .0) newline)),
+      printed-more (omega (arith, start .pre, word .next)) word
+          (printed-more (omega (arith, start .pre, word .next, at-put-bytes .put-bytes .kept .0, number .1)) (number .0)
+          (printed-more (omega (arith, start .pre, word .next, at-put-bytes .put-bytes .kept .0, number .1, at-put-marked .put-marked .kept .0, place .1)) (place .0) newline)),
       omega (arith, word .next, number .1, place .1, newline .next),
     )
 

@@ -29,13 +29,17 @@ same-length c = search needs
 returns-2 : tie.Need-returns-2
 unfolding spanText
 returns-2 c =
+    let at-put-marked = c .before .before .before .before .before .before .before .before .before .before in
+    let at-put-marked2 = c .before .before .before .before .before .before in
+    let at-if = c .before .before .before .before .before .before .before .before .before .before .before .before in
+    let start = c .before .before .before .before .before .before .before .before .before .before .before .before .before .before in
     let a = c .before .before .before .before .before .before .before .before .before .before .before .before .before .before .args in
-    let number = c .before .before .before .before .before .before .before .before .before .before .put-marked .ensures in
-    let begin = c .before .before .before .before .before .before .put-marked2 .ensures in
+    let number = at-put-marked .put-marked .ensures in
+    let begin = at-put-marked2 .put-marked2 .ensures in
     let end = c .before .before .put-marked3 .ensures in (
-      rw (ne-eqb (a .end) 0 (c .before .before .before .before .before .before .before .before .before .before .before .before .if1 .left))
-          (printed-more (omega (arith, c .before .before .before .before .before .before .before .before .before .before .before .before .before .before .pre, number .1)) (number .0)
-          (printed-more (omega (arith, c .before .before .before .before .before .before .before .before .before .before .before .before .before .before .pre, number .1, c .before .before .before .before .before .before .before .before .before .before .put-marked .kept .0, begin .1)) (begin .0) (end .0))),
+      rw (ne-eqb (a .end) 0 (at-if .if1 .left))
+          (printed-more (omega (arith, start .pre, number .1)) (number .0)
+          (printed-more (omega (arith, start .pre, number .1, at-put-marked .put-marked .kept .0, begin .1)) (begin .0) (end .0))),
       omega (arith, number .1, begin .1, end .1),
     )
 

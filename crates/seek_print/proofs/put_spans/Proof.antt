@@ -58,12 +58,14 @@ loop-less c = search needs
 loop-again : tie.Need-loop-again Inv-loop μ-loop
 unfolding spansText
 loop-again c =
-    let l = c .before .before .before .before .before .before .before .loop in
+    let at-loop = c .before .before .before .before .before .before .before in
+    let start = c .before .before .before .before .before .before .before .before .before .before in
+    let l = at-loop .loop in
     let p = c .before .before .put-span .ensures in (
       search needs,
       search needs,
       search needs,
-      rw (add-one (l .v)) (printed-more (omega (arith, l .inv .0, l .inv .2, c .before .before .before .before .before .before .before .before .before .before .pre .0)) (l .inv .3) (p .0)),
+      rw (add-one (l .v)) (printed-more (omega (arith, l .inv .0, l .inv .2, start .pre .0)) (l .inv .3) (p .0)),
     )
 
 same-length : tie.Need-same-length Inv-loop μ-loop

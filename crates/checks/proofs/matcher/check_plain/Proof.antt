@@ -30,7 +30,8 @@ enum-known-f c = search needs
 returns-2 : tie.Need-returns-2
 unfolding plainCheck
 returns-2 c =
-    simp (sym (c .before .before .before .before .before .before .check-alphabet .ensures) ∙ c .before .before .before .before .enum-told .given .1, sym (c .before .before .before .check-reading .ensures) ∙ c .before .f .given .1)
+    let at-check-alphabet = c .before .before .before .before .before .before in
+    simp (sym (at-check-alphabet .check-alphabet .ensures) ∙ c .before .before .before .before .enum-told .given .1, sym (c .before .before .before .check-reading .ensures) ∙ c .before .f .given .1)
 
 enum-told-3 : tie.Need-enum-told-3
 enum-told-3 c = search needs
@@ -47,17 +48,25 @@ enum-told-5 c = search needs
 returns-3 : tie.Need-returns-3
 unfolding plainCheck
 returns-3 c =
-    simp (sym (c .before .before .before .before .before .before .before .before .check-alphabet .ensures) ∙ c .before .before .before .before .before .before .enum-told .given .1, sym (c .before .before .before .before .before .check-reading .ensures) ∙ c .before .before .before .enum-told3 .given .1, c .enum-told5 .given .1, sym (c .before .before .check-pattern .ensures) ∙ c .enum-told5 .given .1)
+    let at-check-alphabet = c .before .before .before .before .before .before .before .before in
+    let at-enum-told = c .before .before .before .before .before .before in
+    simp (sym (at-check-alphabet .check-alphabet .ensures) ∙ at-enum-told .enum-told .given .1, sym (c .before .before .before .before .before .check-reading .ensures) ∙ c .before .before .before .enum-told3 .given .1, c .enum-told5 .given .1, sym (c .before .before .check-pattern .ensures) ∙ c .enum-told5 .given .1)
 
 returns-4 : tie.Need-returns-4
 unfolding plainCheck position
 returns-4 c =
-    simp (sym (c .before .before .before .before .before .before .before .before .before .check-alphabet .ensures) ∙ c .before .before .before .before .before .before .before .enum-told .given .1, sym (c .before .before .before .before .before .before .check-reading .ensures) ∙ c .before .before .before .before .enum-told3 .given .1, sym (c .before .before .before .check-pattern .ensures) ∙ c .before .enum-told4 .given .1, lt-leb _ _ (c .if1 .taken))
+    let at-check-alphabet = c .before .before .before .before .before .before .before .before .before in
+    let at-enum-told = c .before .before .before .before .before .before .before in
+    let at-check-reading = c .before .before .before .before .before .before in
+    simp (sym (at-check-alphabet .check-alphabet .ensures) ∙ at-enum-told .enum-told .given .1, sym (at-check-reading .check-reading .ensures) ∙ c .before .before .before .before .enum-told3 .given .1, sym (c .before .before .before .check-pattern .ensures) ∙ c .before .enum-told4 .given .1, lt-leb _ _ (c .if1 .taken))
 
 returns-5 : tie.Need-returns-5
 unfolding plainCheck position
 returns-5 c =
-    simp (sym (c .before .before .before .before .before .before .before .before .before .check-alphabet .ensures) ∙ c .before .before .before .before .before .before .before .enum-told .given .1, sym (c .before .before .before .before .before .before .check-reading .ensures) ∙ c .before .before .before .before .enum-told3 .given .1, sym (c .before .before .before .check-pattern .ensures) ∙ c .before .enum-told4 .given .1, le-leb _ _ (c .if1 .left))
+    let at-check-alphabet = c .before .before .before .before .before .before .before .before .before in
+    let at-enum-told = c .before .before .before .before .before .before .before in
+    let at-check-reading = c .before .before .before .before .before .before in
+    simp (sym (at-check-alphabet .check-alphabet .ensures) ∙ at-enum-told .enum-told .given .1, sym (at-check-reading .check-reading .ensures) ∙ c .before .before .before .before .enum-told3 .given .1, sym (c .before .before .before .check-pattern .ensures) ∙ c .before .enum-told4 .given .1, le-leb _ _ (c .if1 .left))
 
 pub check-plain-spec : {M : Type 1} → statement M
 check-plain-spec =

@@ -30,7 +30,8 @@ enum-known-k c = search needs
 returns-2 : tie.Need-returns-2
 unfolding newerCheck
 returns-2 c =
-    simp (sym (c .before .before .before .before .before .before .check-given .ensures) ∙ c .before .before .before .before .enum-told .given .1, sym (c .before .before .before .check-kept .ensures OnRecord) ∙ ap (keeps OnRecord) (c .before .k .given .1))
+    let at-check-given = c .before .before .before .before .before .before in
+    simp (sym (at-check-given .check-given .ensures) ∙ c .before .before .before .before .enum-told .given .1, sym (c .before .before .before .check-kept .ensures OnRecord) ∙ ap (keeps OnRecord) (c .before .k .given .1))
 
 enum-told-3 : tie.Need-enum-told-3
 enum-told-3 c = search needs
@@ -40,7 +41,9 @@ check-pattern-requires c κs = search needs
 
 returns-3 : tie.Need-returns-3
 unfolding newerCheck
-returns-3 c = simp (sym (c .before .before .before .before .before .before .check-given .ensures) ∙ c .before .before .before .before .enum-told .given .1, sym (c .before .before .before .check-kept .ensures OnRecord) ∙ ap (keeps OnRecord) (c .before .enum-told3 .given .1), c .check-pattern .ensures)
+returns-3 c =
+    let at-check-given = c .before .before .before .before .before .before in
+    simp (sym (at-check-given .check-given .ensures) ∙ c .before .before .before .before .enum-told .given .1, sym (c .before .before .before .check-kept .ensures OnRecord) ∙ ap (keeps OnRecord) (c .before .enum-told3 .given .1), c .check-pattern .ensures)
 
 pub check-newer-spec : {M : Type 1} → statement M
 check-newer-spec =

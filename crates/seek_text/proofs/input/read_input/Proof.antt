@@ -23,10 +23,15 @@ line₃ c = rw (c .before .pattern .given .1) at (c .before .before .before .bef
 
 -- room for what the second line holds, and the third
 room₁ : (c : tie.After-known-told2) → LineRoom (c .before .before .before .before .before .before .before .before .before .before .args .input .now) (c .before .arities .given .0 .1 .0) (c .before .before .before .before .before .read-line .last .1 .1 .0) (c .before .arities .given .0 .0)
-room₁ c = room-next (top-room (c .before .before .before .before .before .before .before .before .before .before .args .input .now) (c .before .before .before .before .before .before .before .before .before .before .args .numbers .now) (c .before .before .before .before .before .before .before .if1 .left) (c .before .before .before .before .before .before .before .before .before .before .pre)) (line₁ c) .0
+room₁ c =
+    let start = c .before .before .before .before .before .before .before .before .before .before in
+    let at-if = c .before .before .before .before .before .before .before in
+    room-next (top-room (start .args .input .now) (start .args .numbers .now) (at-if .if1 .left) (start .pre)) (line₁ c) .0
 
 room₂ : (c : tie.After-known-told4) → LineRoom (c .before .before .before .before .before .before .before .before .before .before .before .before .before .before .before .before .before .args .input .now) (c .before .row .given .0 .1 .0) (c .before .before .before .before .before .read-line2 .last .1 .1 .0) (c .before .row .given .0 .0)
-room₂ c = room-next (room₁ (c .before .before .before .before .before .before .before)) (line₂ c) .0
+room₂ c =
+    let at-before = c .before .before .before .before .before .before in
+    room-next (room₁ (at-before .before)) (line₂ c) .0
 
 returns : tie.Need-returns
 returns c = long (c .if1 .taken)
@@ -63,35 +68,52 @@ same-length c = search needs
 
 returns-2 : tie.Need-returns-2
 returns-2 c =
-    refused-fourth (c .before .before .before .before .before .before .before .before .before .before .before .before .before .before .before .before .before .before .before .before .before .before .before .before .before .before .args .input .now) (c .before .before .before .before .before .before .before .before .before .before .before .before .before .before .before .before .before .before .before .before .before .before .before .before .before .before .args .numbers .now) (c .before .before .before .before .before .before .before .before .before .before .before .before .before .before .before .before .before .before .before .before .before .before .before .if1 .left) (line₁ (c .before .before .before .before .before .before .before .before .before .before .before .before .before .before .before .before)) (line₂ (c .before .before .before .before .before .before .before .before .before)) (line₃ (c .before .before)) (c .if2 .taken)
+    let start = c .before .before .before .before .before .before .before .before .before .before .before .before .before .before .before .before .before .before .before .before .before .before .before .before .before .before in
+    let at-if = c .before .before .before .before .before .before .before .before .before .before .before .before .before .before .before .before .before .before .before .before .before .before .before in
+    let at-before = c .before .before .before .before .before .before .before .before .before .before .before .before .before .before .before in
+    let at-before2 = c .before .before .before .before .before .before .before .before in
+    refused-fourth (start .args .input .now) (start .args .numbers .now) (at-if .if1 .left) (line₁ (at-before .before)) (line₂ (at-before2 .before)) (line₃ (c .before .before)) (c .if2 .taken)
 
 same-length-2 : tie.Need-same-length-2
 same-length-2 c = search needs
 
 returns-3 : tie.Need-returns-3
 returns-3 c =
-    refused-first (c .before .before .before .before .before .before .before .before .before .before .args .input .now) (c .before .before .before .before .before .before .before .before .before .before .args .numbers .now) (c .before .before .before .before .before .before .before .if1 .left) (c .before .k .given .0 .0) (rw (c .before .k .given .1) at (c .before .before .before .before .before .read-line .ensures))
+    let start = c .before .before .before .before .before .before .before .before .before .before in
+    let at-if = c .before .before .before .before .before .before .before in
+    refused-first (start .args .input .now) (start .args .numbers .now) (at-if .if1 .left) (c .before .k .given .0 .0) (rw (c .before .k .given .1) at (c .before .before .before .before .before .read-line .ensures))
 
 same-length-3 : tie.Need-same-length-3
 same-length-3 c = search needs
 
 returns-4 : tie.Need-returns-4
 returns-4 c =
-    refused-second (c .before .before .before .before .before .before .before .before .before .before .before .before .before .before .before .before .before .args .input .now) (c .before .before .before .before .before .before .before .before .before .before .before .before .before .before .before .before .before .args .numbers .now) (c .before .before .before .before .before .before .before .before .before .before .before .before .before .before .if1 .left) (line₁ (c .before .before .before .before .before .before .before)) (c .before .k2 .given .0 .0) (rw (c .before .k2 .given .1) at (c .before .before .before .before .before .read-line2 .ensures))
+    let start = c .before .before .before .before .before .before .before .before .before .before .before .before .before .before .before .before .before in
+    let at-if = c .before .before .before .before .before .before .before .before .before .before .before .before .before .before in
+    let at-before = c .before .before .before .before .before .before in
+    refused-second (start .args .input .now) (start .args .numbers .now) (at-if .if1 .left) (line₁ (at-before .before)) (c .before .k2 .given .0 .0) (rw (c .before .k2 .given .1) at (c .before .before .before .before .before .read-line2 .ensures))
 
 same-length-4 : tie.Need-same-length-4
 same-length-4 c = search needs
 
 returns-5 : tie.Need-returns-5
 returns-5 c =
-    refused-third (c .before .before .before .before .before .before .before .before .before .before .before .before .before .before .before .before .before .before .before .before .before .before .before .before .args .input .now) (c .before .before .before .before .before .before .before .before .before .before .before .before .before .before .before .before .before .before .before .before .before .before .before .before .args .numbers .now) (c .before .before .before .before .before .before .before .before .before .before .before .before .before .before .before .before .before .before .before .before .before .if1 .left) (line₁ (c .before .before .before .before .before .before .before .before .before .before .before .before .before .before)) (line₂ (c .before .before .before .before .before .before .before)) (c .before .k3 .given .0 .0) (rw (c .before .k3 .given .1) at (c .before .before .before .before .before .read-line3 .ensures))
+    let start = c .before .before .before .before .before .before .before .before .before .before .before .before .before .before .before .before .before .before .before .before .before .before .before .before in
+    let at-if = c .before .before .before .before .before .before .before .before .before .before .before .before .before .before .before .before .before .before .before .before .before in
+    let at-before = c .before .before .before .before .before .before .before .before .before .before .before .before .before in
+    let at-before2 = c .before .before .before .before .before .before in
+    refused-third (start .args .input .now) (start .args .numbers .now) (at-if .if1 .left) (line₁ (at-before .before)) (line₂ (at-before2 .before)) (c .before .k3 .given .0 .0) (rw (c .before .k3 .given .1) at (c .before .before .before .before .before .read-line3 .ensures))
 
 same-length-5 : tie.Need-same-length-5
 same-length-5 c = search needs
 
 returns-6 : tie.Need-returns-6
 returns-6 c =
-    lists-read (c .before .before .before .before .before .before .before .before .before .before .before .before .before .before .before .before .before .before .before .before .before .before .before .before .before .before .args .input .now) (c .before .before .before .before .before .before .before .before .before .before .before .before .before .before .before .before .before .before .before .before .before .before .before .before .before .before .args .numbers .now) (c .before .before .before .before .before .before .before .before .before .before .before .before .before .before .before .before .before .before .before .before .before .before .before .if1 .left) (line₁ (c .before .before .before .before .before .before .before .before .before .before .before .before .before .before .before .before)) (line₂ (c .before .before .before .before .before .before .before .before .before)) (line₃ (c .before .before)) (c .before .before .before .before .before .before .before .before .before .before .before .before .before .before .before .before .before .before .before .before .before .before .before .before .before .before .pre) (c .if2 .left)
+    let start = c .before .before .before .before .before .before .before .before .before .before .before .before .before .before .before .before .before .before .before .before .before .before .before .before .before .before in
+    let at-if = c .before .before .before .before .before .before .before .before .before .before .before .before .before .before .before .before .before .before .before .before .before .before .before in
+    let at-before = c .before .before .before .before .before .before .before .before .before .before .before .before .before .before .before in
+    let at-before2 = c .before .before .before .before .before .before .before .before in
+    lists-read (start .args .input .now) (start .args .numbers .now) (at-if .if1 .left) (line₁ (at-before .before)) (line₂ (at-before2 .before)) (line₃ (c .before .before)) (start .pre) (c .if2 .left)
 
 pub read-input-spec : {M : Type 1} → statement M
 read-input-spec =

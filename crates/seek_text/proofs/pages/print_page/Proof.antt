@@ -33,8 +33,9 @@ sub-if1 c = search needs
 
 put-line-requires : tie.Need-put-line-requires Inv-loop μ-loop
 put-line-requires c κs =
+    let start = c .before .before .before .before .before .before .before .before .before in
     let l = c .before .before .before .loop in
-    let h = c .before .before .before .before .before .before .before .before .before .pre in
+    let h = start .pre in
     (h .0, omega (arith, c .before .before .loop-test .taken, l .inv .1), omega (arith, c .before .if1 .left, l .inv .0 .room, l .inv .0 .size))
 
 add-i : tie.Need-add-i Inv-loop μ-loop
@@ -45,8 +46,9 @@ loop-less c = search needs
 
 loop-again : tie.Need-loop-again Inv-loop μ-loop
 loop-again c =
+    let at-loop = c .before .before .before .before .before .before in
     let a = c .before .before .before .before .before .before .before .before .before .before .before .before .args in
-    let l = c .before .before .before .before .before .before .loop in (
+    let l = at-loop .loop in (
       paged-more (linesOf (a .response) (a .numbers .now) (a .positions .now)) (a .first) (a .out .now) (l .out) (l .at) (l .i) (l .inv .0) (c .before .before .put-line .result) _ (omega (arith, c .before .before .before .before .before .loop-test .taken, l .inv .1)) (c .before .before .put-line .kept .1 .1 .1 .1 .1 .0) (c .before .before .put-line .ensures),
       l .inv .1,
     )
@@ -56,18 +58,20 @@ same-length c = search needs
 
 returns : tie.Need-returns Inv-loop μ-loop
 returns c =
+    let start = c .before .before .before .before .before .before .before in
     let a = c .before .before .before .before .before .before .before .args in
     let l = c .before .loop in
-    page-printed (linesOf (a .response) (a .numbers .now) (a .positions .now)) (a .first) (a .out .now) (l .out) (l .at) (l .i) (l .inv .0) (c .before .before .before .before .before .before .before .pre .2) (inl (omega (arith, c .loop-test .left, l .inv .1)))
+    page-printed (linesOf (a .response) (a .numbers .now) (a .positions .now)) (a .first) (a .out .now) (l .out) (l .at) (l .i) (l .inv .0) (start .pre .2) (inl (omega (arith, c .loop-test .left, l .inv .1)))
 
 same-length-2 : tie.Need-same-length-2 Inv-loop μ-loop
 same-length-2 c = search needs
 
 returns-2 : tie.Need-returns-2 Inv-loop μ-loop
 returns-2 c =
+    let start = c .before .before .before .before .before .before .before .before in
     let a = c .before .before .before .before .before .before .before .before .args in
     let l = c .before .before .loop in
-    page-printed (linesOf (a .response) (a .numbers .now) (a .positions .now)) (a .first) (a .out .now) (l .out) (l .at) (l .i) (l .inv .0) (c .before .before .before .before .before .before .before .before .pre .2) (inr (c .if1 .taken))
+    page-printed (linesOf (a .response) (a .numbers .now) (a .positions .now)) (a .first) (a .out .now) (l .out) (l .at) (l .i) (l .inv .0) (start .pre .2) (inr (c .if1 .taken))
 
 pub print-page-spec : {M : Type 1} → statement M
 print-page-spec =

@@ -31,15 +31,17 @@ same-length c = search needs
 
 returns : tie.Need-returns
 returns c =
+    let start = c .before .before .before .before .before .before .before .before .before .before .before .before .before in
+    let at-variables-at = c .before .before .before .before .before .before .before in
     let a = c .before .before .before .before .before .before .before .before .before .before .before .before .before .args in
     let w = a .row .now in
     let t = a .table .now in
     let q = a .pattern .now in
     record {
-      within = omega (arith, c .before .before .before .before .before .before .before .before .before .before .before .before .before .pre .2, c .before .before .put-match .ensures .1);
+      within = omega (arith, start .pre .2, c .before .before .put-match .ensures .1);
       text = λ x k m.
-          (let s = spans-fill x w q (a .p) _ _ _ refl m (c .before .before .before .before .before .before .before .variables-at .ensures x k) in
-          let e = right-entry (x .arities) w t (k .row) (a .p) (c .before .before .before .before .before .before .before .before .before .before .before .before .before .pre .1) in
+          (let s = spans-fill x w q (a .p) _ _ _ refl m (at-variables-at .variables-at .ensures x k) in
+          let e = right-entry (x .arities) w t (k .row) (a .p) (start .pre .1) in
           rw (s, e) at (c .before .before .put-match .ensures .0));
     }
 

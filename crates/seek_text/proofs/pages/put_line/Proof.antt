@@ -18,8 +18,9 @@ enum-known-response-2 c = search needs
 
 put-numbered-requires : tie.Need-put-numbered-requires
 put-numbered-requires c κs =
+    let start = c .before .before .before .before .before .before .before .before in
     let e = c .before .before .response2 .given .1 in
-    let h = c .before .before .before .before .before .before .before .before .pre in
+    let h = start .pre in
     let g = rw e at (h .0) in
     let k = rw e at (h .1) in
     (g, omega (arith, k, lines-many _ _ _ _ _ _ _ g), h .2)
@@ -29,10 +30,11 @@ same-length c = search needs
 
 returns : tie.Need-returns
 returns c =
+    let start = c .before .before .before .before .before .before .before .before .before .before .before in
     let e = c .before .before .before .before .before .response .given .1 in
-    let h = c .before .before .before .before .before .before .before .before .before .before .before .pre in
+    let h = start .pre in
     let k = rw e at (h .1) in
-    let z : c .before .before .before .before .before .before .before .before .before .before .before .args .i ≡ 0 = omega (arith, k) in
+    let z : start .args .i ≡ 0 = omega (arith, k) in
     let x = c .before .before .put-refusal .ensures in
     (rw (e, z) (x .0), omega (arith, h .2, x .1))
 

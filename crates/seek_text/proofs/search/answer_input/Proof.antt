@@ -23,8 +23,9 @@ enum-known-a c = search needs
 
 find-in-requires : tie.Need-find-in-requires
 find-in-requires c κs =
+    let start = c .before .before .before .before .before .before .before .before .before .before .before .before .before .before in
     let s = places _ _ _ _ _ _ (lists (c .before .before .before)) in
-    (s .0, s .1, s .2, c .before .before .before .before .before .before .before .before .before .before .before .before .before .before .pre .1, c .before .before .before .before .before .before .before .before .before .before .before .before .before .before .pre .2)
+    (s .0, s .1, s .2, start .pre .1, start .pre .2)
 
 enum-known-r-2 : tie.Need-enum-known-r-2
 enum-known-r-2 c = search needs
@@ -48,7 +49,10 @@ same-length-4 : tie.Need-same-length-4
 same-length-4 c = search needs
 
 returns-2 : tie.Need-returns-2
-returns-2 c = (answer-refused _ _ _ _ _ _ (lists (c .before .before .before .before .before .before .before .before .before .before .before)) (c .before .r2 .given .0 .0) (rw (c .before .r2 .given .1) at (c .before .before .before .before .before .before .before .find-in .ensures)), tt)
+returns-2 c =
+    let at-before = c .before .before .before .before .before .before .before .before .before .before in
+    let at-find-in = c .before .before .before .before .before .before .before in
+    (answer-refused _ _ _ _ _ _ (lists (at-before .before)) (c .before .r2 .given .0 .0) (rw (c .before .r2 .given .1) at (at-find-in .find-in .ensures)), tt)
 
 same-length-5 : tie.Need-same-length-5
 same-length-5 c = search needs
@@ -60,7 +64,10 @@ same-length-7 : tie.Need-same-length-7
 same-length-7 c = search needs
 
 returns-3 : tie.Need-returns-3
-returns-3 c = answer-found _ _ _ _ _ _ (lists (c .before .before .before .before .before .before .before .before .before .before .before)) (c .before .count .given .0 .0) _ _ (rw (c .before .count .given .1) at (c .before .before .before .before .before .before .before .find-in .ensures))
+returns-3 c =
+    let at-before = c .before .before .before .before .before .before .before .before .before .before in
+    let at-find-in = c .before .before .before .before .before .before .before in
+    answer-found _ _ _ _ _ _ (lists (at-before .before)) (c .before .count .given .0 .0) _ _ (rw (c .before .count .given .1) at (at-find-in .find-in .ensures))
 
 pub answer-input-spec : {M : Type 1} → statement M
 answer-input-spec =

@@ -22,8 +22,9 @@ same-length c = search needs
 
 returns : tie.Need-returns
 returns c =
+    let start = c .before .before .before .before .before .before .before .before .before .before .before .before in
     let a = c .before .before .before .before .before .before .before .before .before .before .before .before .args in
-    searched-refused (a .arities .now) (a .row .now) (a .pattern .now) (a .table .now) _ (a .positions .now) (a .positions .now) (c .before .before .before .before .before .before .before .before .before .before .before .before .pre .0) (c .before .before .before .before .before .before .before .before .before .before .before .before .pre .1)
+    searched-refused (a .arities .now) (a .row .now) (a .pattern .now) (a .table .now) _ (a .positions .now) (a .positions .now) (start .pre .0) (start .pre .1)
     (c .before .r .given .0 .0) (rw (c .before .r .given .1) at (c .before .before .before .before .before .build .ensures))
 
 same-length-2 : tie.Need-same-length-2
@@ -34,9 +35,11 @@ same-length-3 c = search needs
 
 returns-2 : tie.Need-returns-2
 returns-2 c =
+    let start = c .before .before .before .before .before .before .before .before .before .before .before .before .before .before .before .before in
+    let at-build = c .before .before .before .before .before .before .before .before .before in
     let a = c .before .before .before .before .before .before .before .before .before .before .before .before .before .before .before .before .args in
-    searched (a .arities .now) (a .row .now) (a .pattern .now) (a .table .now) _ (a .positions .now) _ (c .before .before .before .before .before .before .before .before .before .before .before .before .before .before .before .before .pre .0) (c .before .before .before .before .before .before .before .before .before .before .before .before .before .before .before .before .pre .1)
-    (rw (c .before .before .before .before .before .enum-told .given .1) at (c .before .before .before .before .before .before .before .before .before .build .ensures)) (c .before .before .find .result) (c .before .before .find .ensures)
+    searched (a .arities .now) (a .row .now) (a .pattern .now) (a .table .now) _ (a .positions .now) _ (start .pre .0) (start .pre .1)
+    (rw (c .before .before .before .before .before .enum-told .given .1) at (at-build .build .ensures)) (c .before .before .find .result) (c .before .before .find .ensures)
 
 pub find-matches-spec : {M : Type 1} → statement M
 find-matches-spec =

@@ -22,7 +22,9 @@ use Rattle.sparrowhem.proofs.edit.replace.Statement.{statement}
 use Rattle.sparrowhem.proofs.edit.replace.Tie as tie
 
 abbrev start : tie.After-check-replace → tie.Start
-start c = c .before .before .before .before .before .before .before
+start c =
+    let at-before = c .before .before .before .before .before .before in
+    at-before .before
 
 abbrev a : tie.After-check-replace → Alphabet
 a c = alphabetOf (start c .args .arities .now)

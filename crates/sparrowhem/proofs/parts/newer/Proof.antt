@@ -31,7 +31,9 @@ enum-known-begin : tie.Need-enum-known-begin
 enum-known-begin c = search needs
 
 mul-result : tie.Need-mul-result
-mul-result c = omega (arith, match-within _ _ _ _ _ (in-corrected (c .before)), c .before .before .before .before .before .before .before .before .before .before .good)
+mul-result c =
+    let start = c .before .before .before .before .before .before .before .before .before .before in
+    omega (arith, match-within _ _ _ _ _ (in-corrected (c .before)), start .good)
 
 sub-result : tie.Need-sub-result
 sub-result c = omega (arith, match-within _ _ _ _ _ (in-corrected (c .before)))
@@ -46,7 +48,9 @@ enum-known-begin-2 : tie.Need-enum-known-begin-2
 enum-known-begin-2 c = search needs
 
 mul-result-2 : tie.Need-mul-result-2
-mul-result-2 c = omega (arith, match-within _ _ _ _ _ (on-record (c .before)), c .before .before .before .before .before .before .before .before .before .before .good)
+mul-result-2 c =
+    let start = c .before .before .before .before .before .before .before .before .before .before in
+    omega (arith, match-within _ _ _ _ _ (on-record (c .before)), start .good)
 
 sub-result-2 : tie.Need-sub-result-2
 sub-result-2 c = omega (arith, match-within _ _ _ _ _ (on-record (c .before)))

@@ -18,7 +18,9 @@ use Rattle.sparrowhem.proofs.parts.newer_answer.Statement.{statement}
 use Rattle.sparrowhem.proofs.parts.newer_answer.Tie as tie
 
 abbrev start : tie.After-check-newer → tie.Start
-start c = c .before .before .before .before .before .before .before
+start c =
+    let at-before = c .before .before .before .before .before .before in
+    at-before .before
 
 abbrev a : tie.After-check-newer → Alphabet
 a c = alphabetOf (start c .args .arities .now)

@@ -32,7 +32,9 @@ shared-slice-read-t10 : tie.Need-shared-slice-read-t10
 shared-slice-read-t10 c = let h = stands (c .before) in omega (arith, h .below, h .right .sized .fits)
 
 cast-t11 : tie.Need-cast-t11
-cast-t11 c = omega (arith, c .shared-slice-known4 .given (c .before .before .before .before .before .before .before .args .position))
+cast-t11 c =
+    let start = c .before .before .before .before .before .before .before in
+    omega (arith, c .shared-slice-known4 .given (start .args .position))
 
 returns : tie.Need-returns
 unfolding subtreeAnswer
