@@ -3,6 +3,7 @@
 # `CRATE/NAME.edit`, is a file of that crate's must-fail folder or of its folder in tests/attack/edits, and not of both; and each of
 # the public calls' own is named there.
 set -u
+shopt -s nullglob
 cd "$(dirname "$0")/.." || exit 2
 passed=0
 failed=0

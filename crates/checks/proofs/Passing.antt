@@ -6,7 +6,8 @@ use mathlib.Core.List.{List}
 use lib.ListN.{length}
 use Rattle.rows.specs.Limits.{alphabetMost, rowMost, patternMost, spanPlaces}
 use Rattle.rows.specs.Programme.{Alphabet, Programme}
-use Rattle.rows.specs.Row.{reading, sized, verdict, allowed, Accepted}
+use Rattle.rows.specs.Row.{reading, sized, verdict, allowed}
+use Rattle.rows.specs.Reading.{Accepted}
 use Rattle.rows.specs.Refusals.{_then_, alphabetSize, aritiesFit, someLeaf, alphabet, asKept, kept, given, pattern, position, output}
 use Rattle.rows.specs.declared.Leaves.the-variants.{Blanks, Symbols}
 use Rattle.rows.specs.declared.Verdict.the-variants.{Whole}

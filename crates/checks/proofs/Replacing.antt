@@ -10,7 +10,8 @@ use lib.Seq.{length-take-le}
 use Rattle.rows.specs.Limits.{rowMost}
 use Rattle.rows.specs.Programme.{Alphabet, Programme, room}
 use Rattle.rows.specs.Tree.{size}
-use Rattle.rows.specs.Row.{Accepted, sized, verdict, allowed, reading}
+use Rattle.rows.specs.Row.{sized, verdict, allowed, reading}
+use Rattle.rows.specs.Reading.{Accepted}
 use Rattle.rows.specs.Refusals.{_then_, alphabet, kept, given, replacement, position, grown}
 use Rattle.rows.specs.declared.Leaves.the-variants.{Symbols}
 use Rattle.rows.specs.declared.Refusal.the-variants.{Row}

@@ -8,7 +8,8 @@ use lib.ListN.{length, take, getD}
 use lib.Seq.{length-take-le}
 use Rattle.rows.specs.Tree.{single, size, prefix, ends}
 use Rattle.rows.specs.Parse.{parse, treeOf, table}
-use Rattle.rows.specs.Row.{Accepted, allowed}
+use Rattle.rows.specs.Row.{allowed}
+use Rattle.rows.specs.Reading.{Accepted}
 use Rattle.rows.specs.declared.Leaves.the-variants.{Symbols}
 use Rattle.rows.proofs.Parse.{prefix-parse, size-parse}
 use Rattle.rows.proofs.Accept.{parse-whole}

@@ -6,7 +6,7 @@ use mathlib.Core.List.{List}
 use lib.ListN.{length, take}
 use Rattle.rows.specs.Limits.{rowMost, freedSymbol, freedEntry}
 use Rattle.rows.specs.Tree.{size, prefix, ends}
-use Rattle.rows.specs.Row.{Accepted}
+use Rattle.rows.specs.Reading.{Accepted}
 use Rattle.tables.specs.Given.{Right}
 use Rattle.buffers.specs.Renewed.{renewed}
 use Rattle.edits.specs.Put.{changed}

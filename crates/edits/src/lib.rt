@@ -7,7 +7,7 @@ ghost use lib.IntN.{pos, _-ℤ_};
 ghost use Rattle.rows.specs.Limits.{rowMost, freedSymbol, freedEntry};
 ghost use Rattle.rows.specs.Tree.{ends};
 ghost use Rattle.rows.specs.Parse.{parse};
-ghost use Rattle.rows.specs.Row.{Accepted};
+ghost use Rattle.rows.specs.Reading.{Accepted};
 ghost use Rattle.rows.specs.Refusals.{_then_, position, grown};
 ghost use Rattle.rows.specs.Buffers.{written};
 ghost use Rattle.buffers.specs.Shift.{shifted, spliced};

@@ -1,11 +1,7 @@
--- The three demands on Sparrowhem (docs/SCOPE.md), each sentence as a theorem about the public calls. Each statement is proved in
--- proofs/Demand1, Demand2 or Demand3, under the same name in small letters; the record `Demands` at the end holds them all.
---
--- A contract says which answer, and which contents of the lent lists afterwards, a call may have: `Built`, `Finds`, `Binds` (the
--- variables call), `Replacement`, `subtreePart` with its companion `subtreeAnswer`, `NewerPart` with its companion `NewestSays`, and
--- `PlainSays`, all in crates/sparrowhem/specs. That the code ends and meets its contract on every input is the call's own proof there
--- (`build-spec`, `find-spec` and so on); this file says what the contracts come to.
---
+-- The three demands on Sparrowhem (docs/SCOPE.md), each sentence as a theorem about the public calls, proved in proofs/Demand1, Demand2
+-- or Demand3 under the same name in small letters. A contract, in crates/sparrowhem/specs, says which answer and which contents of the
+-- lent lists afterwards a call may have; that the code ends and meets it on every input is the call's own proof there (`build-spec`,
+-- `find-spec` and so on); this file says what the contracts come to.
 -- a is the alphabet, P a row with what is kept beside it, q the pattern, p the position, y the output, r the answer; in a replacement
 -- n is the row length and v the replacement; O is the row on record with what is kept beside it. ′ marks what a list holds afterwards.
 use Prim.Native.Nat.{ℕ, _+_, _-_, _<_, _≤_, max}

@@ -3,8 +3,8 @@
 use mathlib.Core.Path.{refl, sym, ap, _∙_}
 use Rattle.rows.specs.Tree.{Forest, single, prefix, ends, subtreeAt}
 use Rattle.rows.specs.Parse.{table}
-use Rattle.rows.specs.Promises.{One-tree, Tree-of-row, Entry-of-table, The-limits}
-use Rattle.rows.specs.Notation.{Reads-rows, Checksum-rule, No-beginning, Table-of-row}
+use Rattle.rows.specs.Promises.{One-tree, Tree-of-row, Entry-of-table}
+use Rattle.rows.specs.Notation.{Reads-rows, Checksum-rule, No-beginning, Table-of-row, The-limits}
 use Rattle.rows.proofs.Parse.{same-tree, no-longer}
 use Rattle.rows.proofs.Accept.{whole-iff-row, whole-of-row, parse-row, tree-row}
 use Rattle.rows.proofs.Checksum.{row-iff-checks}

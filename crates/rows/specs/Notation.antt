@@ -1,5 +1,5 @@
--- More promises on rows: reading, the checksum rule of the literature, and what no row is. Each is proved in proofs/Promises,
--- under the same name in small letters.
+-- More promises on rows: reading, the checksum rule of the literature, what no row is, and the limits written out. Each is proved in
+-- proofs/Promises, under the same name in small letters.
 use Prim.Native.Nat.{ℕ, _+_, _<_}
 use mathlib.Core.Path.{_≡_}
 use mathlib.Core.List.{List, [], _∷_, _++_}
@@ -7,6 +7,7 @@ use mathlib.Core.Bool.{Bool}
 use mathlib.Core.Logic.{_↔_}
 use lib.Dec.{T}
 use lib.ListN.{getD, length, take}
+use Rattle.rows.specs.Limits.{alphabetMost, arityMost, rowMost, patternMost, blank, firstVariable, variables, spanPlaces, freedSymbol, freedEntry}
 use Rattle.rows.specs.Tree.{IsRow, single, ends}
 use Rattle.rows.specs.Parse.{table}
 use Rattle.rows.specs.Row.{verdict}
@@ -42,3 +43,16 @@ No-beginning = (A : List ℕ) (ok : ℕ → Bool) (w v : List ℕ) → IsRow A o
 -- the table of a row holds the ends of its tree's subtrees
 abbrev pub Table-of-row : Type 0
 Table-of-row = (A : List ℕ) (ok : ℕ → Bool) (w : List ℕ) (r : IsRow A ok w) → table A w ≡ ends 0 (single (r .tree))
+
+-- the sizes and the numbers with a meaning of their own, written out
+pub record The-limits : Type 0 where
+  pub of-alphabet : alphabetMost ≡ 1024
+  pub of-arity : arityMost ≡ 15
+  pub of-row : rowMost ≡ 16384
+  pub of-pattern : patternMost ≡ 256
+  pub S : blank ≡ 65535
+  pub X0 : firstVariable ≡ 65280
+  pub to-X15 : variables ≡ 16
+  pub two-each : spanPlaces ≡ 32
+  pub freed-in-row : freedSymbol ≡ 65535
+  pub freed-beside : freedEntry ≡ 0

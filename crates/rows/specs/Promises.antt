@@ -5,7 +5,6 @@ use mathlib.Core.Path.{_≡_}
 use mathlib.Core.List.{List}
 use mathlib.Core.Bool.{Bool}
 use lib.ListN.{length, getD, take, drop}
-use Rattle.rows.specs.Limits.{alphabetMost, arityMost, rowMost, patternMost, blank, firstVariable, variables, spanPlaces, freedSymbol, freedEntry}
 use Rattle.rows.specs.Tree.{Tree, single, prefix, Ranked, IsRow, subtreeAt}
 use Rattle.rows.specs.Parse.{parse, treeOf, table}
 
@@ -28,16 +27,3 @@ pub record Entry (A : List ℕ) (ok : ℕ → Bool) (w : List ℕ) (t : Tree) (p
 abbrev pub Entry-of-table : Type 0
 Entry-of-table = (A : List ℕ) (ok : ℕ → Bool) (w : List ℕ) (r : IsRow A ok w) (p : ℕ) → p < length w
     → Entry A ok w (r .tree) p (getD (table A w) p 0)
-
--- the sizes and the numbers with a meaning of their own, written out
-pub record The-limits : Type 0 where
-  pub of-alphabet : alphabetMost ≡ 1024
-  pub of-arity : arityMost ≡ 15
-  pub of-row : rowMost ≡ 16384
-  pub of-pattern : patternMost ≡ 256
-  pub S : blank ≡ 65535
-  pub X0 : firstVariable ≡ 65280
-  pub to-X15 : variables ≡ 16
-  pub two-each : spanPlaces ≡ 32
-  pub freed-in-row : freedSymbol ≡ 65535
-  pub freed-beside : freedEntry ≡ 0

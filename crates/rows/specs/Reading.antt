@@ -1,14 +1,19 @@
 -- Inside: no public contract cites what stands in this file, and no reader has to believe it.
--- How far a list is read from left to right.
+-- What reading accepts, and how far a list is read from left to right.
 use Prim.Native.Nat.{ℕ, _+_, _-_, _*_, _≤_, _<_}
 use mathlib.Core.Path.{_≡_}
 use mathlib.Core.List.{List}
 use mathlib.Core.Bool.{Bool}
 use lib.ListN.{getD, length, drop}
-use Rattle.rows.specs.Row.{verdict}
-use Rattle.rows.specs.declared.Verdict.the-variants.{Faulty}
+use Rattle.rows.specs.Row.{verdict, allowed}
+use Rattle.rows.specs.declared.Verdict.the-variants.{Whole, Faulty}
+use Rattle.rows.specs.declared.Leaves.the-variants.{Symbols}
 use Rattle.rows.specs.declared.Read.{Read}
 use Rattle.rows.specs.declared.Read.the-variants.{Due, Fault}
+
+-- what reading accepts as a row
+abbrev pub Accepted : List ℕ → List ℕ → Type 0
+Accepted A w = verdict A (allowed Symbols A) 1 0 w ≡ Whole
 
 -- the list w is read up to position i, where `due` symbols are due in all: the verdict is what reading on from there gives
 abbrev pub ReadTo : List ℕ → (ℕ → Bool) → List ℕ → ℕ → ℕ → Type 0

@@ -1,6 +1,5 @@
--- What reading a list from left to right finds, which numbers it may hold, and the checksum rule.
+-- What reading a list from left to right finds, and which numbers it may hold.
 use Prim.Native.Nat.{ℕ, zero, suc, _+_}
-use mathlib.Core.Path.{_≡_}
 use mathlib.Core.List.{List, [], _∷_}
 use mathlib.Core.Bool.{Bool, true, false}
 use lib.Dec.{ltb, eqb}
@@ -40,10 +39,6 @@ isVariable s = pick (ltb s firstVariable) false (ltb s (firstVariable + variable
 abbrev pub allowed : Leaves → List ℕ → ℕ → Bool
 allowed Symbols A s = symbol A s
 allowed Blanks A s = pick (symbol A s) true (pick (eqb s blank) true (isVariable s))
-
--- what reading accepts as a row
-abbrev pub Accepted : List ℕ → List ℕ → Type 0
-Accepted A w = verdict A (allowed Symbols A) 1 0 w ≡ Whole
 
 -- the first of two verdicts that finds a fault
 abbrev pub orElse : Verdict → Verdict → Verdict

@@ -11,7 +11,8 @@ use lib.ListN.{length, getD, drop, set}
 use lib.Seq.{drop-length}
 use Rattle.rows.specs.Tree.{Forest, count, size, prefix, ends, Ranked}
 use Rattle.rows.specs.Parse.{first, over, parse, table, behind}
-use Rattle.rows.specs.Row.{pick, Accepted, allowed}
+use Rattle.rows.specs.Row.{pick, allowed}
+use Rattle.rows.specs.Reading.{Accepted}
 use Rattle.rows.specs.Refusals.{differs, fresh}
 use Rattle.rows.specs.declared.Leaves.the-variants.{Symbols}
 use Rattle.rows.specs.declared.Kept.{Kept}

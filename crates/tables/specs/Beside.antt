@@ -8,7 +8,8 @@ use lib.Dec.{ltb}
 use lib.ListN.{length, getD, drop}
 use Rattle.rows.specs.Tree.{Forest, Forest.none, Forest.grow, count, size, ends, Ranked}
 use Rattle.rows.specs.Parse.{behind}
-use Rattle.rows.specs.Row.{pick, allowed, Accepted}
+use Rattle.rows.specs.Row.{pick, allowed}
+use Rattle.rows.specs.Reading.{Accepted}
 use Rattle.rows.specs.Refusals.{differs}
 use Rattle.rows.specs.declared.Leaves.the-variants.{Symbols}
 use Rattle.rows.specs.declared.Kept.{Kept}

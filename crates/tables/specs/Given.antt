@@ -6,7 +6,8 @@ use mathlib.Core.List.{List}
 use lib.Dec.{ltb}
 use lib.ListN.{length, take}
 use Rattle.rows.specs.Limits.{rowMost}
-use Rattle.rows.specs.Row.{pick, Accepted}
+use Rattle.rows.specs.Row.{pick}
+use Rattle.rows.specs.Reading.{Accepted}
 use Rattle.rows.specs.Parse.{table}
 use Rattle.rows.specs.Refusals.{fresh}
 use Rattle.rows.specs.declared.Kept.{Kept}
