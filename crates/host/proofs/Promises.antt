@@ -19,9 +19,9 @@ use Rattle.promises.proofs.Calls.{build-settled, build-refused, find-settled, f
 use Rattle.promises.proofs.Edits.{replace-settled, replace-refused}
 use Rattle.wire.specs.Wire.{numbers, bytesOf}
 use Rattle.wire.proofs.Numbers.{write-read}
-use Rattle.lent.specs.Answer.{buildAnswer, findAnswer, replaceAnswer}
-use Rattle.lent.specs.declared.Answer.{Answer}
-use Rattle.lent.proofs.Crossing.{number-few}
+use Rattle.c_lent.specs.Answer.{buildAnswer, findAnswer, replaceAnswer}
+use Rattle.c_lent.specs.declared.Answer.{Answer}
+use Rattle.c_lent.proofs.Crossing.{number-few}
 use Rattle.host.specs.Promises.{Zero-tells, Build-for-C-settled, Find-for-C-settled, Replace-for-C-settled, Build-for-C-refused, Find-for-C-refused, Replace-for-C-refused}
 
 pub zero-tells : Zero-tells

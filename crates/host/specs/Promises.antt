@@ -4,9 +4,9 @@ use mathlib.Core.Path.{_≡_}
 use mathlib.Core.List.{List}
 use Rattle.rows.specs.declared.Refusal.{Refusal}
 use Rattle.wire.specs.Wire.{Bytes}
-use Rattle.lent.specs.Answer.{refused}
-use Rattle.lent.specs.Calls.{BuiltBytes, FoundBytes, ReplacedBytes}
-use Rattle.lent.specs.declared.Answer.{Answer}
+use Rattle.c_lent.specs.Answer.{refused}
+use Rattle.c_lent.specs.Calls.{BuiltBytes, FoundBytes, ReplacedBytes}
+use Rattle.c_lent.specs.declared.Answer.{Answer}
 
 -- A refusal's number is never 0: 0 tells that a call has answered.
 abbrev pub Zero-tells : Type 0

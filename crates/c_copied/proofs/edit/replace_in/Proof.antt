@@ -1,0 +1,173 @@
+-- `c_copied::replace_in` meets its contract. What the call leaves in the copies is written back, and stands before what was not copied.
+-- Assumes nothing.
+use Prim.Native.Nat.{ℕ, _≤_, min}
+use mathlib.Core.Path.{sym, ap, _∙_}
+use mathlib.Core.List.{List}
+use lib.ListN.{take, drop, length-append, length-take}
+use lib.Seq.{length-take-le}
+use mir.Syntax.{w32}
+use mir.Facts.{toZ-ofZ}
+use Rattle.c_copied.proofs.Copying.{copy-length}
+use Rattle.c_copied.proofs.Editing.{Edited, edited-refused, edited-done}
+use native.Mathlib.Omega.{arith}
+use borrow.Author.Needs.{needs}
+use Rattle.c_copied.proofs.edit.replace_in.Statement.{statement}
+use Rattle.c_copied.proofs.edit.replace_in.Tie as tie
+
+-- the call on the copies
+module _ (f : tie.After-replace) where
+  abbrev start : tie.Start
+  start = f .before .before .before .before .before .before .before .before .before .before .before .before .before .before .before .before .before
+
+  abbrev k : ℕ
+  k = f .before .before .before .before .before .before .before .before .before .before .shorter .result
+
+  abbrev j : ℕ
+  j = f .before .before .before .before .before .before .before .shorter2 .result
+
+  abbrev row-copy : List ℕ
+  row-copy = f .before .before .before .before .before .row-of .result
+
+  abbrev table-copy : List ℕ
+  table-copy = f .before .before .before .row-of2 .result
+
+  most : (k ≤ 16384) × (j ≤ 16384)
+  most = omega (arith, f .before .before .before .before .before .before .before .before .before .before .shorter .ensures, f .before .before .before .before .before .before .before .shorter2 .ensures)
+
+  abbrev edited : Edited (start .args .arities .now) (start .args .row .now) (start .args .table .now) (start .args .n) (start .args .replacement .now) (start .args .position)
+  edited = record {
+    k = k;
+    j = j;
+    w = take k row-copy;
+    t = take j table-copy;
+    w′ = f .replace .last .1 .0;
+    t′ = f .replace .last .1 .1 .0;
+    result = f .replace .result;
+    copyable = start .pre;
+    k-is = f .before .before .before .before .before .before .before .before .before .before .shorter .ensures ∙ ap (λ (m : ℕ). min m 16384) (f .before .before .before .before .before .before .before .before .before .before .before .count .ensures);
+    j-is = f .before .before .before .before .before .before .before .shorter2 .ensures ∙ ap (λ (m : ℕ). min m 16384) (f .before .before .before .before .before .before .before .before .count2 .ensures);
+    w-is = f .before .before .before .before .before .row-of .ensures .front;
+    t-is = f .before .before .before .row-of2 .ensures .front;
+    w-kept = f .replace .kept .1 .0 ∙ copy-length (f .before .before .before .before .before .row-of .ensures) (most .0);
+    t-kept = f .replace .kept .1 .1 .0 ∙ copy-length (f .before .before .before .row-of2 .ensures) (most .1);
+    row-small = λ i. f .before .before .before .before .before .before .before .before .before .before .before .before .before .before .before .slice-known .given i .fits;
+    table-small = λ i. f .before .before .before .before .before .before .before .before .before .before .before .before .before .before .slice-known2 .given i .fits;
+    edit = f .replace .ensures;
+  }
+
+count-requires : tie.Need-count-requires
+count-requires c κs = search needs
+
+shorter-requires : tie.Need-shorter-requires
+shorter-requires c κs = search needs
+
+count-requires-2 : tie.Need-count-requires-2
+count-requires-2 c κs = search needs
+
+shorter-requires-2 : tie.Need-shorter-requires-2
+shorter-requires-2 c κs = search needs
+
+row-of-requires : tie.Need-row-of-requires
+row-of-requires c κs = search needs
+
+row-of-requires-2 : tie.Need-row-of-requires-2
+row-of-requires-2 c κs = search needs
+
+array-borrow-prefix-w : tie.Need-array-borrow-prefix-w
+array-borrow-prefix-w c = search needs
+
+slice-aggregate-replace : tie.Need-slice-aggregate-replace
+slice-aggregate-replace c = simp length-take (omega arith)
+
+array-borrow-prefix-t : tie.Need-array-borrow-prefix-t
+array-borrow-prefix-t c = search needs
+
+slice-aggregate-replace-2 : tie.Need-slice-aggregate-replace-2
+slice-aggregate-replace-2 c = simp length-take (omega arith)
+
+replace-requires : tie.Need-replace-requires
+replace-requires c κs = search needs
+
+enum-known-r : tie.Need-enum-known-r
+enum-known-r c = search needs
+
+refusal-of-requires : tie.Need-refusal-of-requires
+refusal-of-requires c κs = search needs
+
+enum-known-length : tie.Need-enum-known-length
+enum-known-length c = search needs
+
+array-share-prefix-w : tie.Need-array-share-prefix-w
+array-share-prefix-w c = simp length-append (omega (arith, edited (c .before .before .before .before .before) .w-kept))
+
+slice-aggregate-encode : tie.Need-slice-aggregate-encode
+slice-aggregate-encode c = sym (length-take-le _ _ (array-share-prefix-w (c .before)))
+
+encode-requires : tie.Need-encode-requires
+encode-requires c κs = omega (arith, slice-aggregate-encode (c .before), edited (c .before .before .before .before .before .before .before) .k-is)
+
+array-share-prefix-t : tie.Need-array-share-prefix-t
+array-share-prefix-t c = simp length-append (omega (arith, edited (c .before .before .before .before .before .before .before .before .before .before) .t-kept))
+
+slice-aggregate-encode-2 : tie.Need-slice-aggregate-encode-2
+slice-aggregate-encode-2 c = sym (length-take-le _ _ (array-share-prefix-t (c .before)))
+
+encode-requires-2 : tie.Need-encode-requires-2
+encode-requires-2 c κs = omega (arith, slice-aggregate-encode-2 (c .before), edited (c .before .before .before .before .before .before .before .before .before .before .before .before) .j-is)
+
+same-length : tie.Need-same-length
+same-length c = search needs
+
+same-length-2 : tie.Need-same-length-2
+same-length-2 c = search needs
+
+returns : tie.Need-returns
+returns c =
+    let f = c .before .before .before .before .before .before in
+    edited-refused (edited f) (c .before .before .r .given .0 .0) (c .before .before .r .given .1) (c .refusal-of .result) (c .refusal-of .ensures)
+
+same-length-3 : tie.Need-same-length-3
+same-length-3 c = search needs
+
+same-length-4 : tie.Need-same-length-4
+same-length-4 c = search needs
+
+returns-2 : tie.Need-returns-2
+returns-2 c =
+    let f = c .before .before .before .before .before .before .before .before .before .before .before .before .before .before .before in
+    let known = c .before .before .before .before .before .before .before .before .before .before .known-told2 .given in
+    let done = c .before .before .before .before .before .before .before .before .before .before .before in
+    rw (toZ-ofZ {w = w32} {z = done .length .given .0 .1 .0} (record { sfits = known .1 .0 .1 }))
+    (edited-done (edited f) (done .length .given .0 .0) (done .length .given .0 .1 .0) (done .length .given .1) (drop (k f) (row-copy f)) (drop (j f) (table-copy f)) (c .before .before .before .before .before .before .before .encode .last .1 .0) (c .before .before .encode2 .last .1 .0)
+    (c .before .before .before .before .before .before .before .encode .ensures) (c .before .before .encode2 .ensures))
+
+pub replace-in-spec : {M : Type 1} → statement M
+replace-in-spec =
+    tie.close
+    (tie.spec
+    count-requires
+    shorter-requires
+    count-requires-2
+    shorter-requires-2
+    row-of-requires
+    row-of-requires-2
+    array-borrow-prefix-w
+    slice-aggregate-replace
+    array-borrow-prefix-t
+    slice-aggregate-replace-2
+    replace-requires
+    enum-known-r
+    refusal-of-requires
+    enum-known-length
+    array-share-prefix-w
+    slice-aggregate-encode
+    encode-requires
+    array-share-prefix-t
+    slice-aggregate-encode-2
+    encode-requires-2
+    same-length
+    same-length-2
+    returns
+    same-length-3
+    same-length-4
+    returns-2)
