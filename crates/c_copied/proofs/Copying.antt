@@ -6,12 +6,15 @@ use mathlib.Core.List.{List, _++_}
 use native.Mathlib.Omega.{arith}
 use lib.ListN.{length, take, drop, length-append, length-drop}
 use lib.Seq.{length-take-le, take-at, take-length}
-use Rattle.rows.specs.Refusals.{_then_, symbols, fresh}
+use Rattle.rows.specs.Programme.{Programme, alphabetOf, programme, cut, room}
+use Rattle.rows.specs.Refusals.{kept}
+use Rattle.rows.specs.declared.Kept.{Kept}
+use Rattle.rows.specs.declared.Refusal.{Refusal}
 use Rattle.rows.specs.declared.Check.{Check}
-use Rattle.c_copied.specs.Copies.{Copy}
-use Rattle.c_copied.proofs.Cut.{fresh-cut}
+use Rattle.c_copied.specs.Copies.{Copyable, Copy}
+use Rattle.c_copied.proofs.Cut.{kept-cut}
 
--- the front of an array, filled with the first n numbers of a list
+-- THE LAW OF EVERY COPY: the front of an array, filled with the first n numbers of a list
 pub copy-made : (v room got : List ℕ) (n places : ℕ) → places ≡ length room → n ≤ places → n ≤ length v → got ≡ take (length (take n room)) v
     → Copy v n places (got ++ drop n room)
 copy-made v room got n places p h k e =
@@ -29,9 +32,10 @@ copy-whole {v} c e = c .front ∙ ap (λ (m : ℕ). take m v) e ∙ take-length 
 pub copy-length : {v r : List ℕ} {n places : ℕ} → Copy v n places r → n ≤ places → length (take n r) ≡ n
 copy-length {v} {r} {n} c h = length-take-le n r (omega (arith, c .long))
 
--- a row and its table, checked by copies
-pub right-copied : (A W T a w t : List ℕ) (n : ℕ) → a ≡ A → w ≡ take n W → t ≡ take n T → n ≤ length W
-    → (symbols a w then fresh a w t) ≡ (symbols A (take n W) then fresh A (take n W) T)
-right-copied A W T a w t n a-is w-is t-is h =
-    ap₂ (λ (x y : List ℕ). symbols x y then fresh x y t) a-is w-is
-    ∙ ap (λ (c : Check). symbols A (take n W) then c) (ap (fresh A (take n W)) t-is ∙ fresh-cut A (take n W) T n (omega (arith, length-take-le n W h)))
+-- a row with what stands beside it, checked by copies of its first n numbers
+pub kept-copied : (whose : Kept → Refusal) (A : List ℕ) (P : Programme) (x w t : List ℕ) (n : ℕ) → Copyable A n (room P) → x ≡ A → w ≡ take n (P .row)
+    → t ≡ take n (P .table) → kept whose (alphabetOf x) (programme w t) n ≡ kept whose (alphabetOf A) P n
+kept-copied whose A P x w t n copy x-is w-is t-is =
+    ap (λ (l : List ℕ). kept whose (alphabetOf l) (programme w t) n) x-is
+    ∙ ap₂ (λ (l m : List ℕ). kept whose (alphabetOf A) (programme l m) n) w-is t-is
+    ∙ kept-cut whose (alphabetOf A) P n n copy (omega arith)

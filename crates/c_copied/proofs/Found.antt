@@ -2,7 +2,7 @@
 -- row are enough, and the answer is that for the output itself.
 -- Assumes nothing.
 use Prim.Native.Nat.{ℕ, _+_, _≤_, _<_, min}
-use mathlib.Core.Path.{_≡_, refl, sym, ap, _∙_}
+use mathlib.Core.Path.{_≡_, refl, sym, ap, ap₂, _∙_}
 use mathlib.Core.List.{List, _++_, append-assoc}
 use native.Mathlib.Omega.{arith}
 use borrow.Author.Tests.{le-ltb, ltb-true, ltb-false}
@@ -13,11 +13,13 @@ use lib.Seq.{take-at}
 use mathlib.Core.Bool.{Bool, true, false}
 use Rattle.rows.specs.Row.{pick}
 use Rattle.rows.specs.Buffers.{written, after}
-use Rattle.rows.specs.Refusals.{_then_, alphabet, sizes, symbols, fresh, output}
+use Rattle.rows.specs.Limits.{patternMost, rowMost}
+use Rattle.rows.specs.Programme.{Alphabet, Programme}
+use Rattle.rows.specs.Refusals.{_then_, kept, given, pattern, output}
 use Rattle.rows.specs.declared.Check.{Check}
 use Rattle.rows.specs.declared.Check.the-variants.{Fine, Refused}
 use Rattle.rows.specs.declared.Refusal.{Refusal}
-use Rattle.rows.specs.declared.Refusal.the-variants.{OutputShort, Pattern}
+use Rattle.rows.specs.declared.Refusal.the-variants.{Row, OutputShort, Pattern}
 use Rattle.rows.specs.declared.Fault.the-variants.{Long}
 use Rattle.searches.proofs.Counting.{room-enough}
 use Rattle.wire.specs.Wire.{numbers, bytesOf, Bytes}
@@ -28,13 +30,14 @@ use Rattle.sparrowhem.specs.declared.search.Found.{Found}
 use Rattle.sparrowhem.specs.declared.search.Found.the-variants.{Matches, Refused as Unfound}
 use Rattle.checks.proofs.Passing.{search-checked}
 use Rattle.sparrowhem.proofs.Searching.{finds-refused}
-use Rattle.c_lent.specs.Answer.{answered, refused, refusedBy, findAnswer}
+use Rattle.c_lent.specs.Answer.{granted, refused, refusedBy, findAnswer}
 use Rattle.c_lent.specs.Calls.{FoundBytes}
 use Rattle.c_lent.specs.declared.Answer.{Answer}
-use Rattle.c_copied.proofs.Checks.{search-after, pattern-long, first-refusal}
+use Rattle.c_lent.proofs.Checks.{sizesCheck}
+use Rattle.c_copied.proofs.Checks.{given-refused, given-kept, pattern-long, first-refusal}
 
 -- n matches fit in m places, or in those of them that a row can fill
-output-cut : (n m k : ℕ) → n ≤ 16384 → k ≡ min m 16384 → output n k ≡ output n m
+output-cut : (n m k : ℕ) → n ≤ rowMost → k ≡ min m rowMost → output n k ≡ output n m
 unfolding output
 output-cut n m k h e = go (ltb m n) refl
   where
@@ -61,34 +64,34 @@ fits Fine n m e = go (ltb m n) refl e
 fits (Refused r) n m e = let z : _≡_ {A = ℕ} 0 1 = cc in absurd (omega arith)
 
 -- A search whose matches went to a list of its own, beside the output's bytes.
-pub record Searched (A w t q out : List ℕ) : Type 0 where
+pub record Searched (a : Alphabet) (P : Programme) (q out : List ℕ) : Type 0 where
   pub own : List ℕ
   pub own′ : List ℕ
   pub result : Found
-  pub short : length w ≤ 16384
-  pub room : length own ≡ min (length (numbers out)) 16384
+  pub short : length (P .row) ≤ rowMost
+  pub room : length own ≡ min (length (numbers out)) rowMost
   pub small : Bytes out
-  pub finds : Finds A w t q own result own′
+  pub finds : Finds a P q own result own′
 
-module _ {A w t q out : List ℕ} (s : Searched A w t q out) where
+module _ {a : Alphabet} {P : Programme} {q out : List ℕ} (s : Searched a P q out) where
   abbrev ps : List ℕ
   ps = s .finds .positions
 
   -- the check for the list of its own, and for the output
   abbrev own-check : Check
-  own-check = findCheck A w t q (length ps) (length (s .own))
+  own-check = findCheck a P q (length ps) (length (s .own))
 
   abbrev check : Check
-  check = findCheck A w t q (length ps) (length (numbers out))
+  check = findCheck a P q (length ps) (length (numbers out))
 
   check-cut : own-check ≡ check
   unfolding findCheck
-  check-cut = go (searchCheck A w t q) refl
+  check-cut = go (searchCheck a P q) refl
     where
-      go : (c : Check) → searchCheck A w t q ≡ c → own-check ≡ check
+      go : (c : Check) → searchCheck a P q ≡ c → own-check ≡ check
       go Fine e =
-          let few = room-enough w t q 16384 (s .short) A ps (search-checked A w t q e) (s .finds .listed e) in
-          ap (λ (o : Check). searchCheck A w t q then o) (output-cut (length ps) (length (numbers out)) (length (s .own)) few (s .room))
+          let few = room-enough P q rowMost (s .short) a ps (search-checked a P q e) (s .finds .listed e) in
+          ap (λ (o : Check). searchCheck a P q then o) (output-cut (length ps) (length (numbers out)) (length (s .own)) few (s .room))
       go (Refused x) e = rw e refl
 
   -- what the Rattle call leaves in the output's numbers
@@ -98,16 +101,16 @@ module _ {A w t q out : List ℕ} (s : Searched A w t q out) where
   answer-cut : s .result ≡ found check (length ps)
   answer-cut = s .finds .answer ∙ ap (λ (c : Check). found c (length ps)) check-cut
 
-  found-cut : Finds A w t q (numbers out) (s .result) (left check)
-  found-cut = record { positions = ps; listed = s .finds .listed; answer = answer-cut; buffer = refl }
+  found-cut : Finds a P q (numbers out) (s .result) (left check)
+  found-cut = record { positions = ps; listed = s .finds .listed; answer = answer-cut; output = refl }
 
   -- a refusal leaves the bytes
-  pub found-refused : (x : Refusal) → s .result ≡ Unfound x → (r : Answer) → r ≡ refused x → FoundBytes A w t q out r out
-  found-refused x e r a = record {
+  pub found-refused : (x : Refusal) → s .result ≡ Unfound x → (r : Answer) → r ≡ refused x → FoundBytes a P q out r out
+  found-refused x e r z = record {
     outcome = s .result;
     left = left check;
     call = found-cut;
-    answer = a ∙ ap findAnswer (sym e);
+    answer = z ∙ ap findAnswer (sym e);
     bytes = sym (ap (λ (c : Check). written out 0 (bytesOf (left c))) (refused-found check (length ps) x (sym answer-cut ∙ e)) ∙ write-read out (s .small));
   }
 
@@ -119,19 +122,19 @@ module _ {A w t q out : List ℕ} (s : Searched A w t q out) where
     pub found-fits : (m ≤ length (s .own)) × (m ≤ length (numbers out))
     unfolding findCheck
     found-fits =
-        let a = fits (searchCheck A w t q) (length ps) (length (s .own)) (fine .0) in
-        let b = fits (searchCheck A w t q) (length ps) (length (numbers out)) (sym check-cut ∙ fine .0) in
+        let x = fits (searchCheck a P q) (length ps) (length (s .own)) (fine .0) in
+        let y = fits (searchCheck a P q) (length ps) (length (numbers out)) (sym check-cut ∙ fine .0) in
         omega (arith, fine .1)
 
     front : (z : List ℕ) → take m (s .own′ ++ z) ≡ ps
     unfolding written
     front z =
         let rest = drop (0 + length ps) (s .own) in
-        ap (λ (l : List ℕ). take m (l ++ z)) (s .finds .buffer ∙ ap (λ (c : Check). after c (written (s .own) 0 ps) (s .own)) (fine .0))
+        ap (λ (l : List ℕ). take m (l ++ z)) (s .finds .output ∙ ap (λ (c : Check). after c (written (s .own) 0 ps) (s .own)) (fine .0))
         ∙ ap (take m) (append-assoc ps rest z)
         ∙ take-at ps (rest ++ z) m (sym (fine .1))
 
-    pub found-matches : (z out′ : List ℕ) → out′ ≡ written out 0 (bytesOf (take m (s .own′ ++ z))) → FoundBytes A w t q out (answered m (pos 0)) out′
+    pub found-matches : (z out′ : List ℕ) → out′ ≡ written out 0 (bytesOf (take m (s .own′ ++ z))) → FoundBytes a P q out (granted m (pos 0)) out′
     found-matches z out′ b =
         let few : length ps ≤ length (numbers out) = omega (arith, found-fits, fine .1) in
         let now : check ≡ Fine = sym check-cut ∙ fine .0 in
@@ -147,18 +150,24 @@ module _ {A w t q out : List ℕ} (s : Searched A w t q out) where
 
 -- A search that is refused before anything is copied; and one whose pattern is too long, which is told once row and table
 -- are found right.
-module _ (A w t q out : List ℕ) (small : Bytes out) (r : Answer) where
-  pub find-refused : (x : Refusal) → searchCheck A w t q ≡ Refused x → r ≡ refused x → FoundBytes A w t q out r out
-  find-refused x e a = record {
+module _ (a : Alphabet) (P : Programme) (q out : List ℕ) (small : Bytes out) (r : Answer) where
+  refused-before : (x : Refusal) → searchCheck a P q ≡ Refused x → r ≡ refused x → FoundBytes a P q out r out
+  refused-before x e z = record {
     outcome = Unfound x;
     left = numbers out;
-    call = finds-refused A w t q (numbers out) x e;
-    answer = a;
+    call = finds-refused a P q (numbers out) x e;
+    answer = z;
     bytes = sym (write-read out small);
   }
 
-  pub find-long : alphabet A then sizes (length w) (length t) ≡ Fine → 256 < length q
-      → r ≡ refusedBy (symbols A w then fresh A w t) (Pattern (Long (length q))) → FoundBytes A w t q out r out
-  find-long e h a =
-      let x = first-refusal (symbols A w then fresh A w t) (Pattern (Long (length q))) in
-      find-refused (x .0) (search-after A w t q Fine e ∙ ap (λ (c : Check). (symbols A w then fresh A w t) then c) (pattern-long A q h) ∙ x .1 .0) (a ∙ x .1 .1)
+  pub find-refused : (x : Refusal) → sizesCheck a P (length (P .row)) ≡ Refused x → r ≡ refused x → FoundBytes a P q out r out
+  unfolding searchCheck
+  find-refused x e z = refused-before x (ap (λ (c : Check). c then pattern (a .arities) q) (given-refused a P (length (P .row)) x e)) z
+
+  pub find-long : sizesCheck a P (length (P .row)) ≡ Fine → patternMost < length q
+      → r ≡ refusedBy (kept Row a P (length (P .row))) (Pattern (Long (length q))) → FoundBytes a P q out r out
+  unfolding searchCheck
+  find-long e h z =
+      let n : ℕ = length (P .row) in
+      let x = first-refusal (kept Row a P n) (Pattern (Long (length q))) in
+      refused-before (x .0) (ap₂ (λ (c d : Check). c then d) (given-kept a P n e) (pattern-long (a .arities) q h) ∙ x .1 .0) (z ∙ x .1 .1)

@@ -1,15 +1,17 @@
+-- Inside: no public contract cites what stands in this file, and no reader has to believe it.
 -- Copies of lent numbers.
 use Prim.Native.Nat.{ℕ, _≤_, _<_}
 use mathlib.Core.Path.{_≡_}
 use mathlib.Core.List.{List}
 use lib.ListN.{length, take}
+use Rattle.rows.specs.Limits.{alphabetMost, rowMost}
 
--- what refusals 1 to 6 leave: an alphabet within its limit, and a row of n numbers in and beside buffers of which the shortest
+-- what refusals 1 to 6 leave: an alphabet within its limit, and a row of n numbers in and beside lists of which the shortest
 -- has `room` places
 pub record Copyable (A : List ℕ) (n room : ℕ) : Type 0 where
-  pub few : length A ≤ 1024
+  pub few : length A ≤ alphabetMost
   pub some : 0 < n
-  pub most : n ≤ 16384
+  pub most : n ≤ rowMost
   pub fits : n ≤ room
 
 -- an array of `places` places that begins with the first n numbers of the list `v`

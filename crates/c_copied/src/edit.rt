@@ -1,8 +1,11 @@
 // Replace on copies of the lent numbers.
-ghost use Prim.Native.Nat.{min, _≤_};
+ghost use Prim.Native.Nat.{_≤_};
 ghost use lib.ListN.{length};
+ghost use Rattle.rows.specs.Limits.{rowMost};
+ghost use Rattle.rows.specs.Programme.{alphabetOf, room};
 ghost use Rattle.wire.specs.Wire.{numbers};
 ghost use Rattle.c_copied.specs.Copies.{Copyable};
+ghost use Rattle.c_lent.specs.Lent.{lent, numbersOf};
 ghost use Rattle.c_lent.specs.Calls.{ReplacedBytes};
 use c_lent::Answer;
 use rows::Check;
@@ -19,11 +22,11 @@ fn replace_in(
     replacement: &[u16],
     position: usize,
 ) -> Answer
-    requires { ⌜ Copyable (now arities) n (min (length (numbers (now row))) (length (numbers (now table)))) ⌝ }
-    ensures { λ r. ⌜ ReplacedBytes (now (arities .entry)) (now (row .entry)) (now (table .entry)) n (now (replacement .entry)) position r (now (row .exit)) (now (table .exit)) ⌝ }
+    requires { ⌜ Copyable (now arities) n (room (numbersOf (lent (now row) (now table)))) ⌝ }
+    ensures { λ r. ⌜ ReplacedBytes (alphabetOf (now (arities .entry))) (lent (now (row .entry)) (now (table .entry))) n (now (replacement .entry)) position r (lent (now (row .exit)) (now (table .exit))) ⌝ }
 {
-    let k = rows::shorter(wire::count(row), 16384);
-    let j = rows::shorter(wire::count(table), 16384);
+    let k = rows::shorter(wire::count(row), rows::ROW_MOST);
+    let j = rows::shorter(wire::count(table), rows::ROW_MOST);
     let mut w = crate::copies::row_of(row, k);
     let mut t = crate::copies::row_of(table, j);
     match sparrowhem::replace(arities, &mut w[..k], &mut t[..j], n, replacement, position) {
@@ -50,9 +53,9 @@ fn replace_copied(
     replacement: &[u8],
     position: usize,
 ) -> Answer
-    requires { ⌜ Copyable (numbers (now arities)) n (min (length (numbers (now row))) (length (numbers (now table)))) ⌝ }
-    requires { ⌜ length (numbers (now replacement)) ≤ 16384 ⌝ }
-    ensures { λ r. ⌜ ReplacedBytes (numbers (now (arities .entry))) (now (row .entry)) (now (table .entry)) n (numbers (now (replacement .entry))) position r (now (row .exit)) (now (table .exit)) ⌝ }
+    requires { ⌜ Copyable (numbers (now arities)) n (room (numbersOf (lent (now row) (now table)))) ⌝ }
+    requires { ⌜ length (numbers (now replacement)) ≤ rowMost ⌝ }
+    ensures { λ r. ⌜ ReplacedBytes (alphabetOf (numbers (now (arities .entry)))) (lent (now (row .entry)) (now (table .entry))) n (numbers (now (replacement .entry))) position r (lent (now (row .exit)) (now (table .exit))) ⌝ }
 {
     let k = wire::count(arities);
     let m = wire::count(replacement);
@@ -71,16 +74,16 @@ pub fn replace(
     replacement: &[u8],
     position: usize,
 ) -> Answer
-    ensures { λ r. ⌜ ReplacedBytes (numbers (now (arities .entry))) (now (row .entry)) (now (table .entry)) n (numbers (now (replacement .entry))) position r (now (row .exit)) (now (table .exit)) ⌝ }
+    ensures { λ r. ⌜ ReplacedBytes (alphabetOf (numbers (now (arities .entry)))) (lent (now (row .entry)) (now (table .entry))) n (numbers (now (replacement .entry))) position r (lent (now (row .exit)) (now (table .exit))) ⌝ }
 {
     let room = rows::shorter(wire::count(row), wire::count(table));
     match c_lent::check_sizes(arities, n, room) {
         Check::Refused(r) => c_lent::refusal_of(r),
         Check::Fine => {
             let m = wire::count(replacement);
-            if 16384 < m {
-                let check = crate::copies::check_right(arities, row, table, n);
-                return crate::copies::refused_by(check, Refusal::Replacement(Fault::Long(m)));
+            if rows::ROW_MOST < m {
+                let kept = crate::copies::check_kept(arities, row, table, n);
+                return crate::copies::refused_by(kept, Refusal::Replacement(Fault::Long(m)));
             }
             replace_copied(arities, row, table, n, replacement, position)
         }

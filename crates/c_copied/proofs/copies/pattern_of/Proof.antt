@@ -8,8 +8,8 @@ use borrow.Author.Needs.{needs}
 use Rattle.c_copied.proofs.copies.pattern_of.Statement.{statement}
 use Rattle.c_copied.proofs.copies.pattern_of.Tie as tie
 
-short-room-requires : tie.Need-short-room-requires
-short-room-requires c κs = search needs
+pattern-room-requires : tie.Need-pattern-room-requires
+pattern-room-requires c κs = search needs
 
 array-borrow-prefix-copy : tie.Need-array-borrow-prefix-copy
 array-borrow-prefix-copy c = search needs
@@ -23,14 +23,14 @@ decode-requires c κs = simp length-take (omega arith)
 returns : tie.Need-returns
 returns c =
     let s = c .before .before .before .before .before in
-    copy-made (numbers (s .args .bytes .now)) (c .before .before .before .short-room .result) (c .before .decode .last .1 .0) (s .args .n) _
-    (c .before .before .before .short-room .ensures) (s .pre .0) (s .pre .1) (c .before .decode .ensures)
+    copy-made (numbers (s .args .bytes .now)) (c .before .before .before .pattern-room .result) (c .before .decode .last .1 .0) (s .args .n) _
+    (c .before .before .before .pattern-room .ensures) (s .pre .0) (s .pre .1) (c .before .decode .ensures)
 
 pub pattern-of-spec : {M : Type 1} → statement M
 pattern-of-spec =
     tie.close
     (tie.spec
-    short-room-requires
+    pattern-room-requires
     array-borrow-prefix-copy
     slice-aggregate-decode
     decode-requires

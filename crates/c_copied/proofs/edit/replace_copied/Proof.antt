@@ -1,6 +1,7 @@
 -- `c_copied::replace_copied` meets its contract. The copies of alphabet and replacement are the lists.
 -- Assumes nothing.
 use Rattle.wire.specs.Wire.{numbers}
+use Rattle.c_lent.specs.Lent.{lent}
 use Rattle.c_copied.proofs.Copying.{copy-whole, copy-length}
 use Rattle.c_copied.proofs.Editing.{edited-copied}
 use native.Mathlib.Omega.{arith}
@@ -8,6 +9,10 @@ use lib.ListN.{length-take}
 use borrow.Author.Needs.{needs}
 use Rattle.c_copied.proofs.edit.replace_copied.Statement.{statement}
 use Rattle.c_copied.proofs.edit.replace_copied.Tie as tie
+
+-- what the call is lent
+abbrev start : tie.After-replace-in → tie.Start
+start c = c .before .before .before .before .before .before .before .before .before .before .before .before .before
 
 count-requires : tie.Need-count-requires
 count-requires c κs = search needs
@@ -35,9 +40,11 @@ slice-aggregate-replace-in-2 c = simp length-take (omega arith)
 
 replace-in-requires : tie.Need-replace-in-requires
 replace-in-requires c κs =
-    let s = c .before .before .before .before .before .before .before .before .before .before .before .before in
+    let copied = c .before .before .before .before .before in
+    let k = copied .before .before .count .ensures in
+    let s = copied .before .before .before .before .before .before .before in
     record {
-      few = omega (arith, s .pre .0 .few, copy-length (c .before .before .before .before .before .alphabet-of .ensures) (omega (arith, s .pre .0 .few, c .before .before .before .before .before .before .before .count .ensures)), c .before .before .before .before .before .before .before .count .ensures);
+      few = omega (arith, s .pre .0 .few, copy-length (copied .alphabet-of .ensures) (omega (arith, s .pre .0 .few, k)), k);
       some = s .pre .0 .some;
       most = s .pre .0 .most;
       fits = s .pre .0 .fits;
@@ -52,9 +59,11 @@ same-length-2 c = search needs
 returns : tie.Need-returns
 returns c =
     let b = c .before .before .before .before in
-    let a = b .before .before .before .before .before .before .before .before .before .before .before .before .before .args in
-    edited-copied (numbers (a .arities .now)) (numbers (a .replacement .now)) _ _ (a .row .now) (a .table .now) (a .n) (a .position) (b .replace-in .result) (b .replace-in .last .1 .0) (b .replace-in .last .1 .1 .0)
-    (copy-whole (b .before .before .before .before .before .before .alphabet-of .ensures) (b .before .before .before .before .before .before .before .before .count .ensures)) (copy-whole (b .before .before .before .before .before .row-of .ensures) (b .before .before .before .before .before .before .before .count2 .ensures)) (b .replace-in .ensures)
+    let x = start b .args in
+    let v = b .before .before .before .before .before in
+    edited-copied (numbers (x .arities .now)) (numbers (x .replacement .now)) _ _ (lent (x .row .now) (x .table .now)) (x .n) (x .position) (b .replace-in .result)
+    (lent (b .replace-in .last .1 .0) (b .replace-in .last .1 .1 .0))
+    (copy-whole (v .before .alphabet-of .ensures) (v .before .before .before .count .ensures)) (copy-whole (v .row-of .ensures) (v .before .before .count2 .ensures)) (b .replace-in .ensures)
 
 pub replace-copied-spec : {M : Type 1} → statement M
 replace-copied-spec =

@@ -4,7 +4,10 @@ use Prim.Native.Nat.{ℕ, _≤_}
 use mathlib.Core.Path.{ap, _∙_}
 use mathlib.Core.List.{List}
 use lib.ListN.{take, length-take}
+use Rattle.rows.specs.Limits.{rowMost}
+use Rattle.rows.specs.Programme.{Alphabet, Programme, alphabetOf}
 use Rattle.wire.specs.Wire.{numbers}
+use Rattle.c_lent.specs.Lent.{lent, numbersOf}
 use Rattle.c_copied.proofs.Copying.{copy-whole, copy-length}
 use Rattle.c_copied.proofs.Cut.{found-copied}
 use native.Mathlib.Omega.{arith}
@@ -17,17 +20,18 @@ module _ (b : tie.After-pattern-of) where
   abbrev start : tie.Start
   start = b .before .before .before .before .before .before .before .before .before .before .before .before
 
-  abbrev A : List ℕ
-  A = numbers (start .args .arities .now)
+  abbrev a : Alphabet
+  a = alphabetOf (numbers (start .args .arities .now))
 
-  abbrev w : List ℕ
-  w = numbers (start .args .row .now)
-
-  abbrev t : List ℕ
-  t = numbers (start .args .table .now)
+  abbrev P : Programme
+  P = numbersOf (lent (start .args .row .now) (start .args .table .now))
 
   abbrev q : List ℕ
   q = numbers (start .args .pattern .now)
+
+-- the last copy
+abbrev copied : tie.After-slice-known2 → tie.After-pattern-of
+copied c = c .before .before .before .before .before .before .before .before
 
 count-requires : tie.Need-count-requires
 count-requires c κs = search needs
@@ -77,7 +81,7 @@ slice-aggregate-find-out-4 c = simp length-take (omega arith)
 find-out-requires : tie.Need-find-out-requires
 find-out-requires c κs =
     let b = c .before .before .before .before .before in
-    let most : b .before .before .before .before .before .count2 .result ≤ 16384 = omega (arith, b .before .before .before .before .before .count2 .ensures, start b .pre .0 .most) in
+    let most : b .before .before .before .before .before .count2 .result ≤ rowMost = omega (arith, b .before .before .before .before .before .count2 .ensures, start b .pre .0 .most) in
     omega (arith, copy-length (b .before .before .row-of .ensures) most)
 
 same-length : tie.Need-same-length
@@ -85,12 +89,13 @@ same-length c = search needs
 
 returns : tie.Need-returns
 returns c =
-    let b = c .before .before .before .before .before .before .before .before in
-    let n = b .before .before .before .before .before .count2 .ensures in
-    found-copied (A b) (w b) (t b) (q b) (start b .pre .0) _ _ _ _ (start b .args .out .now) (c .before .before .find-out .result) (c .before .before .find-out .last .1 .1 .1 .1 .0)
-    (copy-whole (b .before .before .before .alphabet-of .ensures) (b .before .before .before .before .before .before .count .ensures))
+    let b = copied c in
+    let counts = b .before .before .before .before .before in
+    let n = counts .count2 .ensures in
+    found-copied (a b) (P b) (q b) (start b .pre .0) _ _ _ _ (start b .args .out .now) (c .before .before .find-out .result) (c .before .before .find-out .last .1 .1 .1 .1 .0)
+    (copy-whole (b .before .before .before .alphabet-of .ensures) (counts .before .count .ensures))
     (copy-whole (b .before .before .row-of .ensures) n)
-    (b .before .row-of2 .ensures .front ∙ ap (λ (k : ℕ). take k (t b)) n)
+    (b .before .row-of2 .ensures .front ∙ ap (λ (k : ℕ). take k (P b .table)) n)
     (copy-whole (b .pattern-of .ensures) (b .before .before .before .before .count3 .ensures))
     (c .before .before .find-out .ensures)
 

@@ -4,6 +4,8 @@ use Prim.Native.Nat.{ℕ, min}
 use mathlib.Core.Path.{sym, ap, _∙_}
 use lib.ListN.{take, drop, length-append, length-take}
 use lib.Seq.{length-take-le}
+use Rattle.rows.specs.Limits.{rowMost}
+use Rattle.rows.specs.Programme.{alphabetOf, programme}
 use Rattle.c_copied.proofs.Found.{Searched, found-refused, found-fits, found-matches}
 use native.Mathlib.Omega.{arith}
 use borrow.Author.Needs.{needs}
@@ -18,7 +20,7 @@ module _ (f : tie.After-find) where
   abbrev k : ℕ
   k = f .before .before .before .shorter .result
 
-  abbrev searched : Searched (start .args .arities .now) (start .args .row .now) (start .args .table .now) (start .args .pattern .now) (start .args .out .now)
+  abbrev searched : Searched (alphabetOf (start .args .arities .now)) (programme (start .args .row .now) (start .args .table .now)) (start .args .pattern .now) (start .args .out .now)
   searched = record {
     own = take k (f .before .before .long-room .result);
     own′ = f .find .last .1 .1 .1 .1 .0;
@@ -26,10 +28,14 @@ module _ (f : tie.After-find) where
     short = start .pre;
     room = length-take-le k (f .before .before .long-room .result) (omega (arith, f .before .before .before .shorter .ensures, f .before .before .long-room .ensures))
         ∙ f .before .before .before .shorter .ensures
-        ∙ ap (λ (n : ℕ). min n 16384) (f .before .before .before .before .count .ensures);
+        ∙ ap (λ (n : ℕ). min n rowMost) (f .before .before .before .before .count .ensures);
     small = λ i. f .before .before .before .before .before .before .slice-known .given i .fits;
     finds = f .find .ensures;
   }
+
+-- how many matches there are
+abbrev found : tie.After-slice-known2 → tie.After-count2
+found c = c .before .before .before .before .before .before
 
 count-requires : tie.Need-count-requires
 count-requires c κs = search needs
@@ -68,8 +74,8 @@ slice-aggregate-encode c = sym (length-take-le _ _ (array-share-prefix-positions
 
 encode-requires : tie.Need-encode-requires
 encode-requires c κs =
-    let f = c .before .before .before .before .before .before in
     let n = c .before .before .before in
+    let f = n .before .before .before in
     omega (arith, found-fits (searched f) (n .count2 .given .0 .0) (n .count2 .given .1), slice-aggregate-encode (c .before))
 
 same-length : tie.Need-same-length
@@ -85,8 +91,8 @@ same-length-2 c = search needs
 
 returns-2 : tie.Need-returns-2
 returns-2 c =
-    let f = c .before .before .before .before .before .before .before .before .before in
-    let n = c .before .before .before .before .before .before in
+    let n = found c in
+    let f = n .before .before .before in
     found-matches (searched f) (n .count2 .given .0 .0) (n .count2 .given .1) (drop (k f) (f .before .before .long-room .result)) (c .before .before .encode .last .1 .0) (c .before .before .encode .ensures)
 
 pub find-out-spec : {M : Type 1} → statement M
