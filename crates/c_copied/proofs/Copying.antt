@@ -6,11 +6,10 @@ use mathlib.Core.List.{List, _++_}
 use native.Mathlib.Omega.{arith}
 use lib.ListN.{length, take, drop, length-append, length-drop}
 use lib.Seq.{length-take-le, take-at, take-length}
-use Rattle.rows.specs.Programme.{Programme, alphabetOf, programme, cut, room}
+use Rattle.rows.specs.Programme.{Programme, alphabetOf, programme, room}
 use Rattle.rows.specs.Refusals.{kept}
 use Rattle.rows.specs.declared.Kept.{Kept}
 use Rattle.rows.specs.declared.Refusal.{Refusal}
-use Rattle.rows.specs.declared.Check.{Check}
 use Rattle.c_copied.specs.Copies.{Copyable, Copy}
 use Rattle.c_copied.proofs.Cut.{kept-cut}
 

@@ -11,7 +11,7 @@ use lib.Seq.{take-at}
 use Rattle.rows.specs.Limits.{rowMost}
 use Rattle.rows.specs.Programme.{Alphabet, Programme, alphabetOf, programme, room, cut}
 use Rattle.rows.specs.Buffers.{written, after}
-use Rattle.rows.specs.Refusals.{_then_, kept, given, replacement, position, grown}
+use Rattle.rows.specs.Refusals.{_then_, kept, replacement, position, grown}
 use Rattle.rows.specs.Tree.{size}
 use Rattle.rows.specs.declared.Fault.the-variants.{Long}
 use Rattle.rows.specs.declared.Refusal.{Refusal}
@@ -25,11 +25,11 @@ use Rattle.sparrowhem.specs.declared.edit.Replaced.the-variants.{Done, Refused 
 use Rattle.wire.specs.Wire.{numbers, bytesOf, Bytes}
 use Rattle.wire.proofs.Numbers.{written-again}
 use Rattle.c_lent.specs.Answer.{granted, refused, refusedBy, replaceAnswer}
-use Rattle.c_lent.specs.Lent.{Lent, lent, numbersOf, over}
+use Rattle.c_lent.specs.Lent.{Lent, lent, Small, numbersOf, over}
 use Rattle.c_lent.specs.Calls.{ReplacedBytes}
 use Rattle.c_lent.specs.declared.Answer.{Answer}
 use Rattle.c_lent.proofs.Checks.{sizesCheck}
-use Rattle.c_lent.proofs.Lists.{Small, over-same}
+use Rattle.c_lent.proofs.Lists.{over-same}
 use Rattle.c_copied.specs.Copies.{Copyable}
 use Rattle.c_copied.proofs.Checks.{given-refused, given-kept, replacement-long, first-refusal}
 use Rattle.c_copied.proofs.Cut.{take-most, onto, replaced-cut}

@@ -15,7 +15,7 @@ use Rattle.rows.specs.Row.{pick}
 use Rattle.rows.specs.Buffers.{written, after}
 use Rattle.rows.specs.Limits.{patternMost, rowMost}
 use Rattle.rows.specs.Programme.{Alphabet, Programme}
-use Rattle.rows.specs.Refusals.{_then_, kept, given, pattern, output}
+use Rattle.rows.specs.Refusals.{_then_, kept, pattern, output}
 use Rattle.rows.specs.declared.Check.{Check}
 use Rattle.rows.specs.declared.Check.the-variants.{Fine, Refused}
 use Rattle.rows.specs.declared.Refusal.{Refusal}

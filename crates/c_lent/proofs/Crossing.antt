@@ -1,6 +1,6 @@
 -- Refusals' numbers as they cross to C.
 -- Assumes nothing.
-use Prim.Native.Nat.{ℕ, _+_, _≤_, _<_}
+use Prim.Native.Nat.{ℕ, _≤_, _<_}
 use native.Mathlib.Omega.{arith}
 use Rattle.refusal_numbers.specs.Numbers.{alphabetNumber, rowNumber, patternNumber, replacementNumber, keptNumber, onRecordNumber, textNumber, number}
 use Rattle.rows.specs.declared.Fault.{Fault}

@@ -1,18 +1,12 @@
 -- Laws of lent bytes and the numbers that they hold.
 -- Assumes nothing.
 use mathlib.Core.Path.{_≡_, sym, ap, ap₂}
-use Prim.Native.Nat.{ℕ}
 use lib.ListN.{length}
 use Rattle.rows.specs.Programme.{Programme, programme}
-use Rattle.wire.specs.Wire.{numbers, Bytes}
+use Rattle.wire.specs.Wire.{Bytes}
 use Rattle.wire.proofs.Numbers.{write-read}
 use Rattle.wire.proofs.Promises.{odd-byte-stays}
-use Rattle.c_lent.specs.Lent.{Lent, lent, numbersOf, beside, over}
-
--- no byte is over 255
-pub record Small (b : Lent) : Type 0 where
-  pub row : Bytes (b .row)
-  pub table : Bytes (b .table)
+use Rattle.c_lent.specs.Lent.{Lent, lent, Small, numbersOf, beside, over}
 
 -- writing the numbers that are there changes no byte
 pub beside-same : (b : Lent) → Bytes (b .table) → beside b (numbersOf b) ≡ b

@@ -4,7 +4,7 @@ use mathlib.Core.List.{List}
 use Prim.Native.Nat.{ℕ}
 use Rattle.rows.specs.Programme.{Programme, programme}
 use Rattle.rows.specs.Buffers.{written}
-use Rattle.wire.specs.Wire.{numbers, bytesOf}
+use Rattle.wire.specs.Wire.{numbers, bytesOf, Bytes}
 
 pub record Lent : Type 0 where
   pub row : List ℕ
@@ -12,6 +12,11 @@ pub record Lent : Type 0 where
 
 abbrev pub lent : List ℕ → List ℕ → Lent
 lent row table = record { row = row; table = table }
+
+-- what lent bytes are: no byte is over 255
+pub record Small (b : Lent) : Type 0 where
+  pub row : Bytes (b .row)
+  pub table : Bytes (b .table)
 
 -- the numbers that they hold
 abbrev pub numbersOf : Lent → Programme

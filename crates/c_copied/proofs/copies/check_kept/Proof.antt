@@ -1,5 +1,6 @@
 -- `c_copied::check_kept` meets its contract. The copies are the alphabet and the first n numbers of row and table, and no number behind these is looked at.
 -- Assumes nothing.
+-- what the call is lent
 use mathlib.Core.Path.{_∙_}
 use Rattle.wire.specs.Wire.{numbers}
 use Rattle.c_lent.specs.Lent.{lent, numbersOf}
@@ -10,7 +11,6 @@ use borrow.Author.Needs.{needs}
 use Rattle.c_copied.proofs.copies.check_kept.Statement.{statement}
 use Rattle.c_copied.proofs.copies.check_kept.Tie as tie
 
--- what the call is lent
 abbrev start : tie.After-row-of2 → tie.Start
 start b = b .before .before .before .before .before .before .before
 

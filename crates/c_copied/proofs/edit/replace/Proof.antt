@@ -1,10 +1,11 @@
 -- `c_copied::replace` meets its contract. Refusals 1 to 6 are told by the sizes, a replacement over its limit once row and table are found right, and the rest by copies.
 -- Assumes nothing.
+-- what the call is lent, and refusals 1 to 6 on the numbers
 use Prim.Native.Nat.{ℕ, min}
 use mathlib.Core.Path.{_≡_, sym, ap, ap₂, _∙_}
 use mathlib.Core.List.{List}
 use native.Mathlib.Omega.{arith}
-use Rattle.rows.specs.Programme.{Alphabet, alphabetOf, room}
+use Rattle.rows.specs.Programme.{Alphabet, alphabetOf}
 use Rattle.rows.specs.Refusals.{_then_, alphabet, sizes}
 use Rattle.rows.specs.declared.Fault.the-variants.{Long}
 use Rattle.rows.specs.declared.Refusal.the-variants.{Row, Replacement}
@@ -12,16 +13,14 @@ use Rattle.rows.specs.declared.Check.{Check}
 use Rattle.rows.specs.declared.Check.the-variants.{Fine, Refused}
 use Rattle.wire.specs.Wire.{numbers}
 use Rattle.c_lent.specs.Answer.{refusedBy}
-use Rattle.c_lent.specs.Lent.{Lent, lent, numbersOf}
+use Rattle.c_lent.specs.Lent.{Lent, lent, Small, numbersOf}
 use Rattle.c_lent.proofs.Checks.{sizesCheck}
-use Rattle.c_lent.proofs.Lists.{Small}
 use Rattle.c_copied.proofs.Checks.{copyable}
 use Rattle.c_copied.proofs.Editing.{replace-refused, replace-long}
 use borrow.Author.Needs.{needs}
 use Rattle.c_copied.proofs.edit.replace.Statement.{statement}
 use Rattle.c_copied.proofs.edit.replace.Tie as tie
 
--- what the call is lent, and refusals 1 to 6 on the numbers
 module _ (c : tie.After-check-sizes) where
   abbrev start : tie.Start
   start = c .before .before .before .before .before .before .before .before .before .before

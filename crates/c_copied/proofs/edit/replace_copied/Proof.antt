@@ -1,5 +1,6 @@
 -- `c_copied::replace_copied` meets its contract. The copies of alphabet and replacement are the lists.
 -- Assumes nothing.
+-- what the call is lent
 use Rattle.wire.specs.Wire.{numbers}
 use Rattle.c_lent.specs.Lent.{lent}
 use Rattle.c_copied.proofs.Copying.{copy-whole, copy-length}
@@ -10,7 +11,6 @@ use borrow.Author.Needs.{needs}
 use Rattle.c_copied.proofs.edit.replace_copied.Statement.{statement}
 use Rattle.c_copied.proofs.edit.replace_copied.Tie as tie
 
--- what the call is lent
 abbrev start : tie.After-replace-in → tie.Start
 start c = c .before .before .before .before .before .before .before .before .before .before .before .before .before
 

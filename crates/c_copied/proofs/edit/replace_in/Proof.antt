@@ -1,5 +1,6 @@
 -- `c_copied::replace_in` meets its contract. What the call leaves in the copies is written back, and stands before what was not copied.
 -- Assumes nothing.
+-- the call on the copies
 use Prim.Native.Nat.{ℕ, _≤_, min}
 use mathlib.Core.Path.{sym, ap, _∙_}
 use lib.ListN.{take, drop, length-append, length-take}
@@ -16,7 +17,6 @@ use borrow.Author.Needs.{needs}
 use Rattle.c_copied.proofs.edit.replace_in.Statement.{statement}
 use Rattle.c_copied.proofs.edit.replace_in.Tie as tie
 
--- the call on the copies
 module _ (f : tie.After-replace) where
   abbrev first : tie.After-row-of
   first = f .before .before .before .before .before

@@ -1,5 +1,6 @@
 -- `c_copied::find` meets its contract. Refusals 1 to 6 are told by the sizes, a pattern over its limit once row and table are found right, and the rest by copies.
 -- Assumes nothing.
+-- the numbers that the bytes hold, and refusals 1 to 6 on them
 use Prim.Native.Nat.{ℕ, min}
 use mathlib.Core.Path.{_≡_, sym, ap, ap₂, subst, _∙_}
 use mathlib.Core.List.{List}
@@ -22,7 +23,6 @@ use borrow.Author.Needs.{needs}
 use Rattle.c_copied.proofs.search.find.Statement.{statement}
 use Rattle.c_copied.proofs.search.find.Tie as tie
 
--- the numbers that the bytes hold, and refusals 1 to 6 on them
 module _ (b : tie.After-check-sizes) where
   abbrev start : tie.Start
   start = b .before .before .before .before .before .before .before .before .before

@@ -1,5 +1,6 @@
 -- `c_copied::find_copied` meets its contract. The copies are the lists, the table's up to the row's length.
 -- Assumes nothing.
+-- the numbers that the bytes hold
 use Prim.Native.Nat.{ℕ, _≤_}
 use mathlib.Core.Path.{ap, _∙_}
 use mathlib.Core.List.{List}
@@ -15,7 +16,6 @@ use borrow.Author.Needs.{needs}
 use Rattle.c_copied.proofs.search.find_copied.Statement.{statement}
 use Rattle.c_copied.proofs.search.find_copied.Tie as tie
 
--- the numbers that the bytes hold
 module _ (b : tie.After-pattern-of) where
   abbrev start : tie.Start
   start = b .before .before .before .before .before .before .before .before .before .before .before .before

@@ -1,5 +1,6 @@
 -- `c_copied::find_out` meets its contract. The matches at the front of the list are written to the output; there are no more than the list has places.
 -- Assumes nothing.
+-- the search, and the list that its matches were written to
 use Prim.Native.Nat.{ℕ, min}
 use mathlib.Core.Path.{sym, ap, _∙_}
 use lib.ListN.{take, drop, length-append, length-take}
@@ -12,7 +13,6 @@ use borrow.Author.Needs.{needs}
 use Rattle.c_copied.proofs.search.find_out.Statement.{statement}
 use Rattle.c_copied.proofs.search.find_out.Tie as tie
 
--- the search, and the list that its matches were written to
 module _ (f : tie.After-find) where
   abbrev start : tie.Start
   start = f .before .before .before .before .before .before .before .before .before .before .before

@@ -1,25 +1,24 @@
 -- `c_lent::build` meets its contract. The table is filled where nothing is refused; a refusal leaves its bytes, which are those of its numbers.
 -- Assumes nothing.
+-- what the call is lent, and the check on the numbers
 use Prim.Native.Nat.{ℕ}
 use mathlib.Core.Path.{_≡_, sym, ap, _∙_}
-use mathlib.Core.List.{List}
 use lib.IntN.{pos}
 use Rattle.rows.specs.Programme.{Alphabet, Programme, alphabetOf}
 use Rattle.rows.specs.Buffers.{after}
 use Rattle.rows.specs.declared.Check.{Check}
 use Rattle.rows.specs.declared.Check.the-variants.{Fine, Refused}
 use Rattle.wire.specs.Wire.{numbers}
-use Rattle.wire.proofs.Numbers.{write-read}
 use Rattle.checks.specs.Checks.{buildCheck}
 use Rattle.checks.proofs.Building.{build-fillable}
 use Rattle.sparrowhem.specs.Build.{built}
 use Rattle.c_lent.specs.Answer.{granted}
 use Rattle.c_lent.specs.Lent.{Lent, lent, numbersOf}
+use Rattle.c_lent.proofs.Lists.{beside-same}
 use borrow.Author.Needs.{needs}
 use Rattle.c_lent.proofs.table.build.Statement.{statement}
 use Rattle.c_lent.proofs.table.build.Tie as tie
 
--- what the call is lent, and the check on the numbers
 module _ (c : tie.After-check-build) where
   abbrev start : tie.Start
   start = c .before .before .before .before .before
@@ -70,7 +69,7 @@ returns c =
       left = numbersOf (b k);
       call = record { answer = sym e; lists = sym (ap (left k) e) };
       answer = c .refusal-of .ensures;
-      bytes = ap (lent (b k .row)) (sym (write-read (b k .table) (λ i. k .before .before .slice-known .given i .fits)));
+      bytes = sym (beside-same (b k) (λ i. k .before .before .slice-known .given i .fits));
     }
 
 same-length-2 : tie.Need-same-length-2

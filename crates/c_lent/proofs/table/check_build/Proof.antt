@@ -1,7 +1,8 @@
 -- `c_lent::check_build` meets its contract. After refusals 1 to 6 come 7 to 9.
 -- Assumes nothing.
+-- refusals 1 to 6, on the numbers
 use Prim.Native.Nat.{ℕ, min}
-use mathlib.Core.Path.{_≡_, sym, ap, ap₂, _∙_}
+use mathlib.Core.Path.{_≡_, sym, ap₂, _∙_}
 use lib.ListN.{length}
 use Rattle.rows.specs.Programme.{Alphabet, Programme, alphabetOf}
 use Rattle.rows.specs.Refusals.{_then_, alphabet, sizes, symbols}
@@ -16,7 +17,6 @@ use borrow.Author.Needs.{needs}
 use Rattle.c_lent.proofs.table.check_build.Statement.{statement}
 use Rattle.c_lent.proofs.table.check_build.Tie as tie
 
--- refusals 1 to 6, on the numbers
 module _ (s : tie.After-check-sizes) where
   abbrev start : tie.Start
   start = s .before .before .before .before .before .before .before
