@@ -27,10 +27,10 @@ use Rattle.wire.specs.Wire.{numbers, bytesOf}
 use Rattle.wire.proofs.Promises.{odd-byte-stays}
 use Rattle.c_lent.specs.Lent.{Lent, numbersOf}
 use Rattle.c_lent.proofs.Lists.{Covers, beside-reads, over-reads}
-use Rattle.host.specs.Promises.{Odd-stays, Build-crosses, Find-crosses, Replace-crosses}
+use Rattle.host.specs.Promises.{OddByteStays, Build-crosses, Find-crosses, Replace-crosses}
 
 -- the odd last byte, where as many numbers are written as there are
-odd : (l v l′ : List ℕ) → length v ≡ length (numbers l) → l′ ≡ written l 0 (bytesOf v) → Odd-stays l l′
+odd : (l v l′ : List ℕ) → length v ≡ length (numbers l) → l′ ≡ written l 0 (bytesOf v) → OddByteStays l l′
 odd l v l′ h e =
     ap (drop (2 * length (numbers l))) e
     ∙ ap (λ (n : ℕ). drop (2 * n) (written l 0 (bytesOf v))) (sym h)
@@ -54,12 +54,13 @@ build-crosses a b r b′ c =
     let row-is = built-row a P (c .outcome) (c .left) (c .call) in
     let long = built-table a P (c .outcome) (c .left) (c .call) in
     let reads : numbersOf b′ ≡ c .left = ap numbersOf (c .bytes) ∙ beside-reads b (c .left) (record { row = ap length row-is; table = long }) row-is in
+    let same : b′ .row ≡ b .row = ap (λ (x : Lent). x .row) (c .bytes) in
     record {
       outcome = c .outcome;
       call = subst (Built a P (c .outcome)) (sym reads) (c .call);
       answer = c .answer;
-      row-stays = ap (λ (x : Lent). x .row) (c .bytes);
-      table-odd = odd (b .table) (c .left .table) (b′ .table) long (ap (λ (x : Lent). x .table) (c .bytes));
+      row-stays = same;
+      odd = record { row = ap (drop (2 * length (P .row))) same; table = odd (b .table) (c .left .table) (b′ .table) long (ap (λ (x : Lent). x .table) (c .bytes)) };
     }
 
 -- find leaves an output of the old length
@@ -98,6 +99,8 @@ replace-crosses a b n v p r b′ c =
       outcome = c .outcome;
       call = subst (Replacement a (numbersOf b) n v p (c .outcome)) (sym reads) (c .call);
       answer = c .answer;
-      row-odd = odd (b .row) (c .left .row) (b′ .row) (covers .row) (ap (λ (x : Lent). x .row) (c .bytes));
-      table-odd = odd (b .table) (c .left .table) (b′ .table) (covers .table) (ap (λ (x : Lent). x .table) (c .bytes));
+      odd = record {
+        row = odd (b .row) (c .left .row) (b′ .row) (covers .row) (ap (λ (x : Lent). x .row) (c .bytes));
+        table = odd (b .table) (c .left .table) (b′ .table) (covers .table) (ap (λ (x : Lent). x .table) (c .bytes));
+      };
     }

@@ -58,8 +58,12 @@ Replace-for-C-refused = (a : Alphabet) (b : Lent) (n : ℕ) (v : List ℕ) (p : 
 -- WHAT CROSSES. The bytes before a call and the bytes after it, both read as numbers, are what the Rattle call is lent and what it
 -- leaves, and the four numbers are those of its answer. So all that is promised of the Rattle calls (crates/promises/specs/Demands)
 -- holds of the exported ones, read so. An odd last byte stays.
-abbrev pub Odd-stays : List ℕ → List ℕ → Type 0
-Odd-stays l l′ = drop (2 * length (numbers l)) l′ ≡ drop (2 * length (numbers l)) l
+abbrev pub OddByteStays : List ℕ → List ℕ → Type 0
+OddByteStays l l′ = drop (2 * length (numbers l)) l′ ≡ drop (2 * length (numbers l)) l
+
+pub record OddBytesStay (b b′ : Lent) : Type 0 where
+  pub row : OddByteStays (b .row) (b′ .row)
+  pub table : OddByteStays (b .table) (b′ .table)
 
 -- build: the row's bytes stay
 pub record BuiltNumbers (a : Alphabet) (b : Lent) (r : Answer) (b′ : Lent) : Type 0 where
@@ -67,7 +71,7 @@ pub record BuiltNumbers (a : Alphabet) (b : Lent) (r : Answer) (b′ : Lent) : T
   pub call : Built a (numbersOf b) outcome (numbersOf b′)
   pub answer : r ≡ buildAnswer outcome (length (numbersOf b .row))
   pub row-stays : b′ .row ≡ b .row
-  pub table-odd : Odd-stays (b .table) (b′ .table)
+  pub odd : OddBytesStay b b′
 
 abbrev pub Build-crosses : Type 0
 Build-crosses = (a : Alphabet) (b : Lent) (r : Answer) (b′ : Lent) → BuiltBytes a b r b′ → BuiltNumbers a b r b′
@@ -76,7 +80,7 @@ pub record FoundNumbers (a : Alphabet) (P : Programme) (q out : List ℕ) (r : A
   pub outcome : Found
   pub call : Finds a P q (numbers out) outcome (numbers out′)
   pub answer : r ≡ findAnswer outcome
-  pub odd : Odd-stays out out′
+  pub odd : OddByteStays out out′
 
 abbrev pub Find-crosses : Type 0
 Find-crosses = (a : Alphabet) (P : Programme) (q out : List ℕ) (r : Answer) (out′ : List ℕ) → FoundBytes a P q out r out′ → FoundNumbers a P q out r out′
@@ -85,8 +89,7 @@ pub record ReplacedNumbers (a : Alphabet) (b : Lent) (n : ℕ) (v : List ℕ) (p
   pub outcome : Replaced
   pub call : Replacement a (numbersOf b) n v p outcome (numbersOf b′)
   pub answer : r ≡ replaceAnswer outcome
-  pub row-odd : Odd-stays (b .row) (b′ .row)
-  pub table-odd : Odd-stays (b .table) (b′ .table)
+  pub odd : OddBytesStay b b′
 
 abbrev pub Replace-crosses : Type 0
 Replace-crosses = (a : Alphabet) (b : Lent) (n : ℕ) (v : List ℕ) (p : ℕ) (r : Answer) (b′ : Lent) → ReplacedBytes a b n v p r b′
