@@ -1,1 +1,3 @@
+pub mod Crossing
+pub mod Running
 pub mod Promises

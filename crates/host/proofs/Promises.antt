@@ -1,77 +1,206 @@
 -- The promises of specs/Promises, each with its proof: from those on the Rattle calls.
 -- Assumes nothing.
-use Prim.Native.Nat.{ℕ}
-use mathlib.Core.Path.{_≡_, sym, ap, _∙_}
+use Prim.Native.Nat.{ℕ, _-_, _<_}
+use mathlib.Core.Path.{_≡_, refl, sym, ap, _∙_, subst}
+use mathlib.Core.Bool.{Bool, true, false}
 use mathlib.Core.List.{List}
 use native.Mathlib.Omega.{arith}
-use lib.ListN.{length}
+use lib.Dec.{ltb}
+use lib.IntN.{pos, _-ℤ_}
+use lib.ListN.{length, getD, take, drop}
+use lib.Seq.{take-length}
+use Rattle.rows.specs.Programme.{Alphabet, Programme, programme, front}
+use Rattle.rows.specs.Tree.{single}
+use Rattle.rows.specs.Row.{pick, reading}
+use Rattle.rows.specs.Limits.{patternMost}
 use Rattle.rows.specs.Buffers.{written}
+use Rattle.rows.specs.Refusals.{_then_, asPattern, given, pattern, output}
+use Rattle.rows.specs.declared.Leaves.the-variants.{Blanks}
+use Rattle.rows.specs.declared.Fault.{Fault}
+use Rattle.rows.specs.declared.Fault.the-variants.{Empty, Long, Stray, Early, Extra}
+use Rattle.rows.specs.declared.Verdict.{Verdict}
+use Rattle.rows.specs.declared.Verdict.the-variants.{Whole, Faulty}
+use Rattle.rows.specs.declared.Refusal.{Refusal}
+use Rattle.rows.specs.declared.Refusal.the-variants.{Pattern, OutputShort}
 use Rattle.rows.specs.declared.Check.{Check}
 use Rattle.rows.specs.declared.Check.the-variants.{Fine, Refused}
+use Rattle.rows.proofs.Passing.{clash}
+use Rattle.refusal_numbers.specs.Numbers.{number, patternNumber}
+use Rattle.patterns.specs.Answers.{Listed}
+use Rattle.checks.specs.Checks.{searchCheck, findCheck}
+use Rattle.sparrowhem.specs.Said.{checkSaid, foundSaid, replacedSaid}
 use Rattle.sparrowhem.specs.Build.{Built}
-use Rattle.sparrowhem.specs.Search.{Finds}
+use Rattle.sparrowhem.specs.Search.{found, Finds}
 use Rattle.sparrowhem.specs.Edit.{Replacement}
 use Rattle.sparrowhem.specs.declared.search.Found.{Found}
 use Rattle.sparrowhem.specs.declared.search.Found.the-variants.{Matches, Refused as Unfound}
 use Rattle.sparrowhem.specs.declared.edit.Replaced.{Replaced}
 use Rattle.sparrowhem.specs.declared.edit.Replaced.the-variants.{Done, Refused as Unreplaced}
-use Rattle.promises.proofs.Calls.{build-settled, build-refused, find-settled, find-refused}
-use Rattle.promises.proofs.Edits.{replace-settled, replace-refused}
+use Rattle.promises.specs.Demands.{Follows}
+use Rattle.promises.proofs.Said.{done-said}
+use Rattle.promises.proofs.Calls.{build-kept, find-kept}
+use Rattle.promises.proofs.Holding.{built-holds, stayed}
+use Rattle.promises.proofs.Demand1.{pair, build-one, find-one, replace-one}
+use Rattle.promises.proofs.Demand2.{find-lists}
+use Rattle.promises.proofs.Demand3.{after-run, putting-back}
 use Rattle.wire.specs.Wire.{numbers, bytesOf}
 use Rattle.wire.proofs.Numbers.{write-read}
-use Rattle.lent.specs.Answer.{buildAnswer, findAnswer, replaceAnswer}
-use Rattle.lent.specs.declared.Answer.{Answer}
-use Rattle.lent.proofs.Crossing.{number-few}
-use Rattle.host.specs.Promises.{Zero-tells, Build-for-C-settled, Find-for-C-settled, Replace-for-C-settled, Build-for-C-refused, Find-for-C-refused, Replace-for-C-refused}
+use Rattle.c_lent.specs.Answer.{buildAnswer, findAnswer, replaceAnswer}
+use Rattle.c_lent.specs.Lent.{Lent, numbersOf, beside, over}
+use Rattle.c_lent.specs.declared.Answer.{Answer}
+use Rattle.c_lent.proofs.Lists.{beside-same, over-same}
+use Rattle.host.specs.Runs.{heldNumbers}
+use Rattle.host.specs.Promises.{Zero-tells, Build-for-C-one, Find-for-C-one, Replace-for-C-one, Build-for-C-refused, Find-for-C-refused, Replace-for-C-refused, FoundNumbers, Build-crosses, Find-crosses, Replace-crosses, Run-for-C, Putting-back-for-C, Find-after-build-for-C}
+use Rattle.host.proofs.Crossing as crossing
+use Rattle.host.proofs.Running.{refusal-tells, build-answered, find-answered, replace-answered, run-crosses}
 
 pub zero-tells : Zero-tells
-zero-tells x e = omega (arith, number-few x)
+zero-tells = refusal-tells
 
-pub build-for-c-settled : Build-for-C-settled
-build-for-c-settled A w table r q t u b c =
-    let same = build-settled A w (numbers table) (b .outcome) (c .outcome) (b .left) (c .left) (b .call) (c .call) in (
-      b .answer ∙ ap (λ (o : Check). buildAnswer o (length w)) (same .0) ∙ sym (c .answer),
-      b .bytes ∙ ap (λ (l : List ℕ). written table 0 (bytesOf l)) (same .1) ∙ sym (c .bytes),
-    )
+-- ---- one outcome
 
-pub find-for-c-settled : Find-for-C-settled
-find-for-c-settled A w t q out r s o u b c =
-    let same = find-settled A w t q (numbers out) (b .outcome) (c .outcome) (b .left) (c .left) (b .call) (c .call) in (
-      b .answer ∙ ap findAnswer (same .0) ∙ sym (c .answer),
-      b .bytes ∙ ap (λ (l : List ℕ). written out 0 (bytesOf l)) (same .1) ∙ sym (c .bytes),
-    )
+pub build-for-c-one : Build-for-C-one
+build-for-c-one a b =
+    let P : Programme = numbersOf b in
+    let one = build-one a P in
+    let say : Check × Programme → Answer × Lent = λ x. (buildAnswer (x .0) (length (P .row)), beside b (x .1)) in
+    record {
+      some = say (one .some);
+      holds = record { outcome = one .some .0; left = one .some .1; call = one .holds; answer = refl; bytes = refl };
+      only = λ x c. pair x (say (c .outcome, c .left)) (c .answer, c .bytes) ∙ ap say (one .only (c .outcome, c .left) (c .call));
+    }
 
-pub replace-for-c-settled : Replace-for-C-settled
-replace-for-c-settled A row table n v p r q w x t u b c =
-    let same = replace-settled A (numbers row) (numbers table) n v p (b .outcome) (c .outcome) (b .row-left) (c .row-left) (b .table-left) (c .table-left) (b .call) (c .call) in (
-      b .answer ∙ ap replaceAnswer (same .0) ∙ sym (c .answer),
-      b .row-bytes ∙ ap (λ (l : List ℕ). written row 0 (bytesOf l)) (same .1) ∙ sym (c .row-bytes),
-      b .table-bytes ∙ ap (λ (l : List ℕ). written table 0 (bytesOf l)) (same .2) ∙ sym (c .table-bytes),
-    )
+pub find-for-c-one : Find-for-C-one
+find-for-c-one a P q out =
+    let one = find-one a P q (numbers out) in
+    let say : Found × List ℕ → Answer × List ℕ = λ x. (findAnswer (x .0), written out 0 (bytesOf (x .1))) in
+    record {
+      some = say (one .some);
+      holds = record { outcome = one .some .0; left = one .some .1; call = one .holds; answer = refl; bytes = refl };
+      only = λ x c. pair x (say (c .outcome, c .left)) (c .answer, c .bytes) ∙ ap say (one .only (c .outcome, c .left) (c .call));
+    }
+
+pub replace-for-c-one : Replace-for-C-one
+replace-for-c-one a b n v p =
+    let one = replace-one a (numbersOf b) n v p in
+    let say : Replaced × Programme → Answer × Lent = λ x. (replaceAnswer (x .0), over b (x .1)) in
+    record {
+      some = say (one .some);
+      holds = record { outcome = one .some .0; left = one .some .1; call = one .holds; answer = refl; bytes = refl };
+      only = λ x c. pair x (say (c .outcome, c .left)) (c .answer, c .bytes) ∙ ap say (one .only (c .outcome, c .left) (c .call));
+    }
+
+-- ---- refusals
 
 pub build-for-c-refused : Build-for-C-refused
-build-for-c-refused A w table r t small b not = go (b .outcome) (b .call) (b .answer)
+build-for-c-refused a b r b′ small c not = go (c .outcome) (c .call) (c .answer)
   where
-    go : (o : Check) → Built A w (numbers table) o (b .left) → r ≡ buildAnswer o (length w) → t ≡ table
-    go Fine c a = absurd (not (ap (λ (x : Answer). x .refusal) a))
-    go (Refused x) c a =
-        b .bytes ∙ ap (λ (l : List ℕ). written table 0 (bytesOf l)) (build-refused A w (numbers table) x (b .left) c) ∙ write-read table small
+    go : (o : Check) → Built a (numbersOf b) o (c .left) → r ≡ buildAnswer o (length (numbersOf b .row)) → b′ ≡ b
+    go Fine d e = absurd (not (ap (λ (x : Answer). x .refusal) e))
+    go (Refused x) d e = c .bytes ∙ ap (beside b) (build-kept a (numbersOf b) x (c .left) d) ∙ beside-same b (small .table)
 
 pub find-for-c-refused : Find-for-C-refused
-find-for-c-refused A w t q out r o small b not = go (b .outcome) (b .call) (b .answer)
+find-for-c-refused a P q out r out′ small c not = go (c .outcome) (c .call) (c .answer)
   where
-    go : (f : Found) → Finds A w t q (numbers out) f (b .left) → r ≡ findAnswer f → o ≡ out
-    go (Matches n) c a = absurd (not (ap (λ (x : Answer). x .refusal) a))
-    go (Unfound x) c a =
-        b .bytes ∙ ap (λ (l : List ℕ). written out 0 (bytesOf l)) (find-refused A w t q (numbers out) x (b .left) c) ∙ write-read out small
+    go : (o : Found) → Finds a P q (numbers out) o (c .left) → r ≡ findAnswer o → out′ ≡ out
+    go (Matches n) d e = absurd (not (ap (λ (x : Answer). x .refusal) e))
+    go (Unfound x) d e =
+        c .bytes ∙ ap (λ (l : List ℕ). written out 0 (bytesOf l)) (find-kept a P q (numbers out) x (c .left) d) ∙ write-read out small
 
 pub replace-for-c-refused : Replace-for-C-refused
-replace-for-c-refused A row table n v p r w t row-small table-small b not = go (b .outcome) (b .call) (b .answer)
+replace-for-c-refused a b n v p r b′ small c not = go (c .outcome) (c .call) (c .answer)
   where
-    go : (o : Replaced) → Replacement A (numbers row) (numbers table) n v p o (b .row-left) (b .table-left) → r ≡ replaceAnswer o → (w ≡ row) × (t ≡ table)
-    go (Done m d) c a = absurd (not (ap (λ (x : Answer). x .refusal) a))
-    go (Unreplaced x) c a =
-        let same = replace-refused A (numbers row) (numbers table) n v p x (b .row-left) (b .table-left) c in (
-          b .row-bytes ∙ ap (λ (l : List ℕ). written row 0 (bytesOf l)) (same .0) ∙ write-read row row-small,
-          b .table-bytes ∙ ap (λ (l : List ℕ). written table 0 (bytesOf l)) (same .1) ∙ write-read table table-small,
-        )
+    go : (o : Replaced) → Replacement a (numbersOf b) n v p o (c .left) → r ≡ replaceAnswer o → b′ ≡ b
+    go (Done m d) o e = absurd (not (ap (λ (x : Answer). x .refusal) e))
+    go (Unreplaced x) o e = c .bytes ∙ ap (over b) (stayed a (numbersOf b) n v p (c .left) x o) ∙ over-same b small
+
+-- ---- what crosses
+
+pub build-crosses : Build-crosses
+build-crosses = crossing.build-crosses
+
+pub find-crosses : Find-crosses
+find-crosses = crossing.find-crosses
+
+pub replace-crosses : Replace-crosses
+replace-crosses = crossing.replace-crosses
+
+-- ---- what is promised of the Rattle calls, of these
+
+pub run-for-c : Run-for-C
+run-for-c a b r b′ c zero start is x calls s run =
+    let built = build-crosses a b r b′ c in
+    let told = build-answered (built .outcome) (length (numbersOf b .row)) r (built .answer) zero in
+    let over-numbers = run-crosses a calls (record { lists = start; length = r .count }) s run in
+    subst (Follows a (heldNumbers s)) (over-numbers .tree (a .arities) (single (x .tree)))
+    (after-run a (numbersOf b) (built .outcome) (numbersOf start) (r .count) (subst (Built a (numbersOf b) (built .outcome)) is (built .call)) (ap checkSaid (told .0)) (sym (told .1)) x (over-numbers .these) (heldNumbers s) (over-numbers .run))
+
+pub putting-back-for-c : Putting-back-for-C
+putting-back-for-c a b n v p r b₁ s b₂ c zero d =
+    let first = replace-crosses a b n v p r b₁ c in
+    let old : List ℕ = take (getD (numbersOf b .table) p 0 - p) (drop p (numbersOf b .row)) in
+    let second = replace-crosses a b₁ (r .count) old p s b₂ d in
+    let told = replace-answered (first .outcome) r (first .answer) zero in
+    let back = putting-back a (numbersOf b) n v p (r .count) (told .0) (first .outcome) (numbersOf b₁) (second .outcome) (numbersOf b₂) (first .call) (ap replacedSaid (told .1)) (second .call) in
+    (second .answer ∙ ap replaceAnswer (done-said (second .outcome) n (pos n -ℤ pos (r .count)) (back .0)), back .1)
+
+-- a refusal that comes after 1 to 10 have found nothing has a later number
+pattern-later : (f : Fault) → 10 < patternNumber f
+pattern-later Empty = omega arith
+pattern-later (Long n) = omega arith
+pattern-later (Stray p) = omega arith
+pattern-later (Early n) = omega arith
+pattern-later (Extra p) = omega arith
+
+later : (v : Verdict) (n m : ℕ) (x : Refusal) → (asPattern v then output n m) ≡ Refused x → 10 < number x
+unfolding output
+later (Faulty f) n m x e = let same : Pattern f ≡ x = cc in subst (λ (y : Refusal). 10 < number y) same (pattern-later f)
+later Whole n m x e = go (ltb m n) e
+  where
+    go : (b : Bool) → pick b (Refused (OutputShort n)) Fine ≡ Refused x → 10 < number x
+    go true z = let same : OutputShort n ≡ x = cc in subst (λ (y : Refusal). 10 < number y) same (omega arith)
+    go false z = absurd (clash Fine x refl z)
+
+refused-later : (a : Alphabet) (P : Programme) (q y : List ℕ) (o : Found) (y′ : List ℕ) → given a P (length (P .row)) ≡ Fine → Finds a P q y o y′
+    → 0 < findAnswer o .refusal → 10 < findAnswer o .refusal
+unfolding findCheck searchCheck pattern
+refused-later a P q y (Matches n) y′ e f h = absurd (omega arith)
+refused-later a P q y (Unfound x) y′ e f h =
+    let ps : List ℕ = f .positions in
+    let v : Verdict = reading (a .arities) Blanks patternMost q in
+    let check : findCheck a P q (length ps) (length y) ≡ asPattern v then output (length ps) (length y) =
+    ap (λ (c : Check). (c then asPattern v) then output (length ps) (length y)) e in
+    go (asPattern v then output (length ps) (length y)) (f .answer ∙ ap (λ (c : Check). found c (length ps)) check) (later v (length ps) (length y) x)
+  where
+    go : (c : Check) → Unfound x ≡ found c (length (f .positions)) → (c ≡ Refused x → 10 < number x) → 10 < number x
+    go Fine is l = let z : _≡_ {A = ℕ} 0 1 = cc in absurd (omega arith)
+    go (Refused z) is l = let same : z ≡ x = cc in l (ap Refused same)
+
+-- what build leaves is refused by no call
+built-given : (a : Alphabet) (T P : Programme) → Built a T Fine P → P .row ≡ T .row → given a P (length (P .row)) ≡ Fine
+built-given a T P b row-is =
+    let n : ℕ = length (P .row) in
+    let same : front n P ≡ P = ap (λ (l : List ℕ). programme l (P .table)) (take-length (P .row)) in
+    built-holds a T P n (subst (Built a T Fine) (sym same) b) (ap length (sym row-is)) .fine
+
+-- an answer to find, on the numbers
+lists-all : (a : Alphabet) (P : Programme) (q out : List ℕ) (s : Answer) (out′ : List ℕ) → FoundNumbers a P q out s out′ → s .refusal ≡ 0
+    → Listed a (P .row) q (length (P .row)) (take (s .count) (numbers out′))
+    × (length (take (s .count) (numbers out′)) ≡ s .count)
+    × (drop (s .count) (numbers out′) ≡ drop (s .count) (numbers out))
+lists-all a P q out s out′ f z =
+    find-lists a P q (numbers out) (s .count) (f .outcome) (numbers out′) (f .call) (ap foundSaid (find-answered (f .outcome) s (f .answer) z))
+
+pub find-after-build-for-c : Find-after-build-for-C
+find-after-build-for-c a b r b′ c zero q out s out′ d =
+    let built = build-crosses a b r b′ c in
+    let finds = find-crosses a (numbersOf b′) q out s out′ d in
+    let told = build-answered (built .outcome) (length (numbersOf b .row)) r (built .answer) zero in
+    let row-is : numbersOf b′ .row ≡ numbersOf b .row = ap numbers (built .row-stays) in
+    let fine = built-given a (numbersOf b) (numbersOf b′) (subst (λ (o : Check). Built a (numbersOf b) o (numbersOf b′)) (told .0) (built .call)) row-is in
+    record {
+      later-refusal = subst (λ (x : Answer). 0 < x .refusal → 10 < x .refusal) (sym (finds .answer)) (refused-later a (numbersOf b′) q (numbers out) (finds .outcome) (numbers out′) fine (finds .call));
+      listed = λ z. subst (λ (w : List ℕ). Listed a w q (length w) (take (s .count) (numbers out′))) row-is (lists-all a (numbersOf b′) q out s out′ finds z .0);
+      counted = λ z. lists-all a (numbersOf b′) q out s out′ finds z .1;
+      later = λ z. lists-all a (numbersOf b′) q out s out′ finds z .2;
+    }

@@ -1,14 +1,16 @@
 // Build, find and replace for C, as include/sparrowhem.h declares them. Nothing is asked of the caller but what that header
 // says: a pointer leads to as many bytes as its count says, and no buffer that is written overlaps another.
+ghost use Rattle.rows.specs.Programme.{alphabetOf};
 ghost use Rattle.wire.specs.Wire.{numbers};
-ghost use Rattle.lent.specs.Calls.{BuiltBytes, FoundBytes, ReplacedBytes};
-use lent::Answer;
+ghost use Rattle.c_lent.specs.Lent.{lent, numbersOf};
+ghost use Rattle.c_lent.specs.Calls.{BuiltBytes, FoundBytes, ReplacedBytes};
+use c_lent::Answer;
 
 #[no_mangle]
 pub extern "C" fn sparrowhem_build(arities: &[u8], row: &[u8], table: &mut [u8]) -> Answer
-    ensures { λ r. ⌜ BuiltBytes (numbers (now (arities .entry))) (numbers (now (row .entry))) (now (table .entry)) r (now (table .exit)) ⌝ }
+    ensures { λ r. ⌜ BuiltBytes (alphabetOf (numbers (now (arities .entry)))) (lent (now (row .entry)) (now (table .entry))) r (lent (now (row .entry)) (now (table .exit))) ⌝ }
 {
-    lent::build(arities, row, table)
+    c_lent::build(arities, row, table)
 }
 
 #[no_mangle]
@@ -19,9 +21,9 @@ pub extern "C" fn sparrowhem_find(
     pattern: &[u8],
     out: &mut [u8],
 ) -> Answer
-    ensures { λ r. ⌜ FoundBytes (numbers (now (arities .entry))) (numbers (now (row .entry))) (numbers (now (table .entry))) (numbers (now (pattern .entry))) (now (out .entry)) r (now (out .exit)) ⌝ }
+    ensures { λ r. ⌜ FoundBytes (alphabetOf (numbers (now (arities .entry)))) (numbersOf (lent (now (row .entry)) (now (table .entry)))) (numbers (now (pattern .entry))) (now (out .entry)) r (now (out .exit)) ⌝ }
 {
-    copied::find(arities, row, table, pattern, out)
+    c_copied::find(arities, row, table, pattern, out)
 }
 
 #[no_mangle]
@@ -33,9 +35,9 @@ pub extern "C" fn sparrowhem_replace(
     replacement: &[u8],
     position: u64,
 ) -> Answer
-    ensures { λ r. ⌜ ReplacedBytes (numbers (now (arities .entry))) (now (row .entry)) (now (table .entry)) «row_length» (numbers (now (replacement .entry))) position r (now (row .exit)) (now (table .exit)) ⌝ }
+    ensures { λ r. ⌜ ReplacedBytes (alphabetOf (numbers (now (arities .entry)))) (lent (now (row .entry)) (now (table .entry))) «row_length» (numbers (now (replacement .entry))) position r (lent (now (row .exit)) (now (table .exit))) ⌝ }
 {
-    copied::replace(
+    c_copied::replace(
         arities,
         row,
         table,

@@ -1,0 +1,3 @@
+pub mod Crossing
+pub mod Checks
+pub mod Lists

@@ -1,0 +1,116 @@
+-- `c_lent::check_row` meets its contract. The loop's invariant: the row is read up to i.
+-- Assumes nothing.
+use Prim.Native.Nat.{ℕ, _-_, _+_}
+use mathlib.Core.Bool.{true, false}
+use mathlib.Core.List.{List, []}
+use mathlib.Core.Path.{_≡_, sym, ap, _∙_, subst}
+use native.Mathlib.Omega.{arith}
+use lib.ListN.{length, getD}
+use borrow.Author.Tests.{lt-ltb, le-ltb}
+use Rattle.rows.specs.Row.{verdict, symbol}
+use Rattle.rows.specs.Reading.{ReadTo}
+use Rattle.rows.proofs.Scan.{read-extra, read-stray, read-next, read-done}
+use Rattle.wire.specs.Wire.{numbers}
+use borrow.Author.Needs.{needs}
+use Rattle.c_lent.proofs.scan.check_row.Statement.{statement}
+use Rattle.c_lent.proofs.scan.check_row.Tie as tie
+
+abbrev Inv-loop : tie.InvT-loop
+Inv-loop arities row symbols n due₀ i₀ due i =
+    (symbols ≡ length (numbers arities))
+    × (n ≡ length (numbers row))
+    × ReadTo (numbers arities) (symbol (numbers arities)) (numbers row) i due
+
+abbrev μ-loop : tie.MeasureT-loop
+μ-loop arities row symbols n due₀ i₀ due i = n - i
+
+count-requires : tie.Need-count-requires Inv-loop μ-loop
+count-requires c κs = search needs
+
+count-requires-2 : tie.Need-count-requires-2 Inv-loop μ-loop
+count-requires-2 c κs = search needs
+
+module _ (l : tie.At-loop Inv-loop μ-loop) where
+  abbrev A : List ℕ
+  A = numbers (l .before .before .before .before .before .args .arities .now)
+
+  abbrev w : List ℕ
+  w = numbers (l .before .before .before .before .before .args .row .now)
+
+loop-holds : tie.Need-loop-holds Inv-loop μ-loop
+loop-holds c = search needs
+
+returns : tie.Need-returns Inv-loop μ-loop
+returns c =
+    let l = c .before .before in
+    sym (read-extra (A l) (symbol (A l)) (w l) _ _ (l .loop .inv .2) (search needs) (c .if1 .taken))
+
+number-at-requires : tie.Need-number-at-requires Inv-loop μ-loop
+number-at-requires c κs = search needs
+
+cast-s : tie.Need-cast-s Inv-loop μ-loop
+cast-s c = search needs
+
+returns-2 : tie.Need-returns-2 Inv-loop μ-loop
+returns-2 c =
+    let l = c .before .before .before .before in
+    let other : symbol (A l) (getD (w l) (l .loop .i) 0) ≡ false =
+    ap (symbol (A l)) (sym (c .before .number-at .ensures)) ∙ le-ltb (c .before .number-at .result) (length (A l)) (search needs) in
+    sym (read-stray (A l) (symbol (A l)) (w l) _ _ (l .loop .inv .2) (search needs) (search needs) other)
+
+number-at-requires-2 : tie.Need-number-at-requires-2 Inv-loop μ-loop
+number-at-requires-2 c κs = search needs
+
+cast-due : tie.Need-cast-due Inv-loop μ-loop
+cast-due c = search needs
+
+add-due : tie.Need-add-due Inv-loop μ-loop
+add-due c = search needs
+
+add-i : tie.Need-add-i Inv-loop μ-loop
+add-i c = search needs
+
+loop-less : tie.Need-loop-less Inv-loop μ-loop
+loop-less c = search needs
+
+loop-again : tie.Need-loop-again Inv-loop μ-loop
+loop-again c =
+    let l = c .before .before .before .before .before in
+    let s = c .before .before .number-at in
+    let one : symbol (A l) (getD (w l) (l .loop .i) 0) ≡ true =
+    ap (symbol (A l)) (sym (s .ensures)) ∙ lt-ltb (s .result) (length (A l)) (search needs) in
+    let arity : c .number-at2 .result ≡ getD (A l) (getD (w l) (l .loop .i) 0) 0 = c .number-at2 .ensures ∙ ap (λ (k : ℕ). getD (A l) k 0) (s .ensures) in
+    let next = read-next (A l) (symbol (A l)) (w l) _ _ (l .loop .inv .2) (search needs) (search needs) one (omega (arith, arity)) in
+    (search needs, search needs, subst (λ (k : ℕ). ReadTo (A l) (symbol (A l)) (w l) (l .loop .i + 1) (l .loop .due + k)) (sym arity) next)
+
+read-end-requires : tie.Need-read-end-requires Inv-loop μ-loop
+read-end-requires c κs = search needs
+
+returns-3 : tie.Need-returns-3 Inv-loop μ-loop
+returns-3 c =
+    let l = c .before .before in
+    c .read-end .ensures (A l) (symbol (A l))
+    ∙ ap (λ (k : ℕ). verdict (A l) (symbol (A l)) (l .loop .due - k) k []) (l .loop .inv .1)
+    ∙ sym (read-done (A l) (symbol (A l)) (w l) _ _ (l .loop .inv .2) (search needs))
+
+pub check-row-spec : {M : Type 1} → statement M
+check-row-spec =
+    tie.close
+    (tie.spec
+    Inv-loop
+    μ-loop
+    count-requires
+    count-requires-2
+    loop-holds
+    returns
+    number-at-requires
+    cast-s
+    returns-2
+    number-at-requires-2
+    cast-due
+    add-due
+    add-i
+    loop-less
+    loop-again
+    read-end-requires
+    returns-3)

@@ -1,0 +1,33 @@
+// Numbers in lent bytes: how answers cross, the checks of an alphabet and a row, and build, all on the bytes themselves. Build
+// keeps at most 32 KiB beside them.
+ghost use mathlib.Core.Path.{_≡_};
+ghost use Rattle.c_lent.specs.Answer.{refused};
+use rows::Refusal;
+
+mod fill;
+mod scan;
+mod table;
+
+pub use scan::check_sizes;
+pub use table::build;
+
+// An answer, as it crosses. `refusal` is 0 or document 01's number.
+#[repr(C)]
+pub struct Answer {
+    pub refusal: u32,
+    pub change: i32,
+    pub place: u64,
+    pub count: u64,
+}
+
+// A refusal, as it crosses.
+pub fn refusal_of(refusal: Refusal) -> Answer
+    ensures { λ r. ⌜ r ≡ refused refusal ⌝ }
+{
+    Answer {
+        refusal: refusal_numbers::number_of(refusal) as u32,
+        change: 0,
+        place: refusal_numbers::place_of(refusal) as u64,
+        count: 0,
+    }
+}

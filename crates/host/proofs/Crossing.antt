@@ -1,0 +1,106 @@
+-- What crosses: the bytes after a call, read as numbers, are what the Rattle call leaves, since each list keeps its length.
+-- Assumes nothing.
+use Prim.Native.Nat.{ℕ, _*_}
+use mathlib.Core.Path.{_≡_, refl, sym, ap, _∙_, subst}
+use mathlib.Core.List.{List}
+use native.Mathlib.Omega.{arith}
+use lib.ListN.{length, drop}
+use Rattle.rows.specs.Programme.{Alphabet, Programme}
+use Rattle.rows.specs.Parse.{table}
+use Rattle.rows.specs.Buffers.{written}
+use Rattle.rows.specs.declared.Check.{Check}
+use Rattle.rows.specs.declared.Check.the-variants.{Fine, Refused}
+use Rattle.rows.proofs.Buffers.{length-written}
+use Rattle.rows.proofs.Entry.{length-table}
+use Rattle.checks.proofs.Building.{build-fillable}
+use Rattle.sparrowhem.specs.Build.{Built}
+use Rattle.sparrowhem.specs.Search.{Finds}
+use Rattle.sparrowhem.specs.Edit.{Replacement}
+use Rattle.sparrowhem.specs.declared.search.Found.{Found}
+use Rattle.sparrowhem.specs.declared.search.Found.the-variants.{Matches, Refused as Unfound}
+use Rattle.sparrowhem.specs.declared.edit.Replaced.{Replaced}
+use Rattle.sparrowhem.specs.declared.edit.Replaced.the-variants.{Done, Refused as Unreplaced}
+use Rattle.sparrowhem.proofs.Searching.{finds-matches}
+use Rattle.promises.proofs.Calls.{build-fine, build-kept, find-kept}
+use Rattle.promises.proofs.Holding.{went, stayed, same-lengths}
+use Rattle.wire.specs.Wire.{numbers, bytesOf}
+use Rattle.wire.proofs.Promises.{odd-byte-stays}
+use Rattle.c_lent.specs.Lent.{Lent, numbersOf}
+use Rattle.c_lent.proofs.Lists.{Covers, beside-reads, over-reads}
+use Rattle.host.specs.Promises.{OddByteStays, Build-crosses, Find-crosses, Replace-crosses}
+
+-- the odd last byte, where as many numbers are written as there are
+odd : (l v l′ : List ℕ) → length v ≡ length (numbers l) → l′ ≡ written l 0 (bytesOf v) → OddByteStays l l′
+odd l v l′ h e =
+    ap (drop (2 * length (numbers l))) e
+    ∙ ap (λ (n : ℕ). drop (2 * n) (written l 0 (bytesOf v))) (sym h)
+    ∙ odd-byte-stays l v h .1
+    ∙ ap (λ (n : ℕ). drop (2 * n) l) h
+
+-- build leaves the row, and a table of the old length
+built-row : (a : Alphabet) (P : Programme) (r : Check) (P′ : Programme) → Built a P r P′ → P′ .row ≡ P .row
+built-row a P Fine P′ b = ap (λ (x : Programme). x .row) (build-fine a P P′ b)
+built-row a P (Refused x) P′ b = ap (λ (x : Programme). x .row) (build-kept a P x P′ b)
+
+built-table : (a : Alphabet) (P : Programme) (r : Check) (P′ : Programme) → Built a P r P′ → length (P′ .table) ≡ length (P .table)
+built-table a P Fine P′ b =
+    ap (λ (x : Programme). length (x .table)) (build-fine a P P′ b)
+    ∙ length-written (P .table) 0 (table (a .arities) (P .row)) (omega (arith, length-table (a .arities) (P .row), build-fillable a P (sym (b .answer)) .fits))
+built-table a P (Refused x) P′ b = ap (λ (x : Programme). length (x .table)) (build-kept a P x P′ b)
+
+pub build-crosses : Build-crosses
+build-crosses a b r b′ c =
+    let P : Programme = numbersOf b in
+    let row-is = built-row a P (c .outcome) (c .left) (c .call) in
+    let long = built-table a P (c .outcome) (c .left) (c .call) in
+    let reads : numbersOf b′ ≡ c .left = ap numbersOf (c .bytes) ∙ beside-reads b (c .left) (record { row = ap length row-is; table = long }) row-is in
+    let same : b′ .row ≡ b .row = ap (λ (x : Lent). x .row) (c .bytes) in
+    record {
+      outcome = c .outcome;
+      call = subst (Built a P (c .outcome)) (sym reads) (c .call);
+      answer = c .answer;
+      row-stays = same;
+      odd = record { row = ap (drop (2 * length (P .row))) same; table = odd (b .table) (c .left .table) (b′ .table) long (ap (λ (x : Lent). x .table) (c .bytes)) };
+    }
+
+-- find leaves an output of the old length
+found-length : (a : Alphabet) (P : Programme) (q y : List ℕ) (r : Found) (y′ : List ℕ) → Finds a P q y r y′ → length y′ ≡ length y
+found-length a P q y (Matches n) y′ f =
+    let m = finds-matches a P q y (Matches n) y′ f n refl in
+    ap length (m .wrote) ∙ length-written y 0 (f .positions) (omega (arith, m .room, m .many))
+found-length a P q y (Unfound x) y′ f = ap length (find-kept a P q y x y′ f)
+
+pub find-crosses : Find-crosses
+find-crosses a P q out r out′ c =
+    let y : List ℕ = numbers out in
+    let long = found-length a P q y (c .outcome) (c .left) (c .call) in
+    let reads : numbers out′ ≡ c .left = ap numbers (c .bytes) ∙ odd-byte-stays out (c .left) long .0 in
+    record {
+      outcome = c .outcome;
+      call = subst (Finds a P q y (c .outcome)) (sym reads) (c .call);
+      answer = c .answer;
+      odd = odd out (c .left) out′ long (c .bytes);
+    }
+
+-- replace leaves lists of the old lengths
+replaced-covers : (a : Alphabet) (b : Lent) (n : ℕ) (v : List ℕ) (p : ℕ) (r : Replaced) (P′ : Programme) → Replacement a (numbersOf b) n v p r P′ → Covers b P′
+replaced-covers a b n v p (Done m d) P′ o =
+    let same = same-lengths a (numbersOf b) n v p P′ m d (went a (numbersOf b) n v p P′ m d o) in
+    record { row = same .0; table = same .1 }
+replaced-covers a b n v p (Unreplaced x) P′ o =
+    let same = stayed a (numbersOf b) n v p P′ x o in
+    record { row = ap (λ (Q : Programme). length (Q .row)) same; table = ap (λ (Q : Programme). length (Q .table)) same }
+
+pub replace-crosses : Replace-crosses
+replace-crosses a b n v p r b′ c =
+    let covers = replaced-covers a b n v p (c .outcome) (c .left) (c .call) in
+    let reads : numbersOf b′ ≡ c .left = ap numbersOf (c .bytes) ∙ over-reads b (c .left) covers in
+    record {
+      outcome = c .outcome;
+      call = subst (Replacement a (numbersOf b) n v p (c .outcome)) (sym reads) (c .call);
+      answer = c .answer;
+      odd = record {
+        row = odd (b .row) (c .left .row) (b′ .row) (covers .row) (ap (λ (x : Lent). x .row) (c .bytes));
+        table = odd (b .table) (c .left .table) (b′ .table) (covers .table) (ap (λ (x : Lent). x .table) (c .bytes));
+      };
+    }
