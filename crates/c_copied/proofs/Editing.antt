@@ -25,11 +25,11 @@ use Rattle.sparrowhem.specs.declared.edit.Replaced.the-variants.{Done, Refused 
 use Rattle.wire.specs.Wire.{numbers, bytesOf, Bytes}
 use Rattle.wire.proofs.Numbers.{written-again}
 use Rattle.c_lent.specs.Answer.{granted, refused, refusedBy, replaceAnswer}
-use Rattle.c_lent.specs.Lent.{Lent, lent, Small, numbersOf, over}
+use Rattle.c_lent.specs.Lent.{Lent, lent, AreBytes, numbersOf, rewritten}
 use Rattle.c_lent.specs.Calls.{ReplacedBytes}
 use Rattle.c_lent.specs.declared.Answer.{Answer}
 use Rattle.c_lent.proofs.Checks.{sizesCheck}
-use Rattle.c_lent.proofs.Lists.{over-same}
+use Rattle.c_lent.proofs.Lists.{rewritten-same}
 use Rattle.c_copied.specs.Copies.{Copyable}
 use Rattle.c_copied.proofs.Checks.{given-refused, given-kept, replacement-long, first-refusal}
 use Rattle.c_copied.proofs.Cut.{take-most, onto, replaced-cut}
@@ -48,7 +48,7 @@ pub record Edited (a : Alphabet) (b : Lent) (n : ℕ) (v : List ℕ) (p : ℕ) :
   pub table-is : copies .table ≡ take j (numbersOf b .table)
   pub row-kept : length (left .row) ≡ k
   pub table-kept : length (left .table) ≡ j
-  pub small : Small b
+  pub small : AreBytes b
   pub edit : Replacement a copies n v p result left
 
 -- a replacement that is refused leaves the lists
@@ -89,7 +89,7 @@ module _ {a : Alphabet} {b : Lent} {n : ℕ} {v : List ℕ} {p : ℕ} (s : Edite
     left = whole;
     call = call;
     answer = z ∙ ap replaceAnswer (sym e);
-    bytes = sym (ap (over b) (left-alone a (numbersOf b) n v p (s .result) whole x call e) ∙ over-same b (s .small));
+    bytes = sym (ap (rewritten b) (left-alone a (numbersOf b) n v p (s .result) whole x call e) ∙ rewritten-same b (s .small));
   }
 
   pub edited-done : (m : ℕ) (d : ℤ) → s .result ≡ Done m d → (y z : List ℕ) (b′ : Lent) → b′ .row ≡ written (b .row) 0 (bytesOf (take (s .k) (s .left .row ++ y)))
@@ -114,7 +114,7 @@ edited-copied A v x u b n p r b′ x-is u-is c =
 
 -- A replacement that is refused before anything is copied; and one that is too long, which is told once row and table are
 -- found right.
-module _ (a : Alphabet) (b : Lent) (n : ℕ) (v : List ℕ) (p : ℕ) (small : Small b) (r : Answer) where
+module _ (a : Alphabet) (b : Lent) (n : ℕ) (v : List ℕ) (p : ℕ) (small : AreBytes b) (r : Answer) where
   abbrev P : Programme
   P = numbersOf b
 
@@ -128,7 +128,7 @@ module _ (a : Alphabet) (b : Lent) (n : ℕ) (v : List ℕ) (p : ℕ) (small : S
     left = P;
     call = record { answer = simp e; lists = sym (ap (λ (q : Check). after q (holding P n (newTree a P n v p)) P) e) };
     answer = z;
-    bytes = sym (over-same b small);
+    bytes = sym (rewritten-same b small);
   }
 
   pub replace-refused : (x : Refusal) → sizesCheck a P n ≡ Refused x → r ≡ refused x → ReplacedBytes a b n v p r b

@@ -15,7 +15,7 @@ use Rattle.sparrowhem.specs.Edit.{Replacement}
 use Rattle.sparrowhem.specs.declared.search.Found.{Found}
 use Rattle.sparrowhem.specs.declared.edit.Replaced.{Replaced}
 use Rattle.c_lent.specs.Answer.{buildAnswer, findAnswer, replaceAnswer}
-use Rattle.c_lent.specs.Lent.{Lent, numbersOf, beside, over}
+use Rattle.c_lent.specs.Lent.{Lent, numbersOf, beside, rewritten}
 use Rattle.c_lent.specs.declared.Answer.{Answer}
 
 -- `r` answers a build, and `b′` are the bytes afterwards
@@ -40,4 +40,4 @@ pub record ReplacedBytes (a : Alphabet) (b : Lent) (n : ℕ) (v : List ℕ) (p :
   pub left : Programme
   pub call : Replacement a (numbersOf b) n v p outcome left
   pub answer : r ≡ replaceAnswer outcome
-  pub bytes : b′ ≡ over b left
+  pub bytes : b′ ≡ rewritten b left

@@ -14,7 +14,7 @@ abbrev pub lent : List ℕ → List ℕ → Lent
 lent row table = record { row = row; table = table }
 
 -- what lent bytes are: no byte is over 255
-pub record Small (b : Lent) : Type 0 where
+pub record AreBytes (b : Lent) : Type 0 where
   pub row : Bytes (b .row)
   pub table : Bytes (b .table)
 
@@ -27,5 +27,5 @@ abbrev pub beside : Lent → Programme → Lent
 beside b P = record { row = b .row; table = written (b .table) 0 (bytesOf (P .table)) }
 
 -- and over the row's too
-abbrev pub over : Lent → Programme → Lent
-over b P = record { row = written (b .row) 0 (bytesOf (P .row)); table = beside b P .table }
+abbrev pub rewritten : Lent → Programme → Lent
+rewritten b P = record { row = written (b .row) 0 (bytesOf (P .row)); table = beside b P .table }

@@ -26,7 +26,7 @@ use Rattle.promises.proofs.Holding.{went, stayed, same-lengths}
 use Rattle.wire.specs.Wire.{numbers, bytesOf}
 use Rattle.wire.proofs.Promises.{odd-byte-stays}
 use Rattle.c_lent.specs.Lent.{Lent, numbersOf}
-use Rattle.c_lent.proofs.Lists.{Covers, beside-reads, over-reads}
+use Rattle.c_lent.proofs.Lists.{Covers, beside-reads, rewritten-reads}
 use Rattle.host.specs.Promises.{OddByteStays, Build-crosses, Find-crosses, Replace-crosses}
 
 -- the odd last byte, where as many numbers are written as there are
@@ -94,7 +94,7 @@ replaced-covers a b n v p (Unreplaced x) P′ o =
 pub replace-crosses : Replace-crosses
 replace-crosses a b n v p r b′ c =
     let covers = replaced-covers a b n v p (c .outcome) (c .left) (c .call) in
-    let reads : numbersOf b′ ≡ c .left = ap numbersOf (c .bytes) ∙ over-reads b (c .left) covers in
+    let reads : numbersOf b′ ≡ c .left = ap numbersOf (c .bytes) ∙ rewritten-reads b (c .left) covers in
     record {
       outcome = c .outcome;
       call = subst (Replacement a (numbersOf b) n v p (c .outcome)) (sym reads) (c .call);

@@ -46,9 +46,9 @@ use Rattle.promises.proofs.Demand3.{after-run, putting-back}
 use Rattle.wire.specs.Wire.{numbers, bytesOf}
 use Rattle.wire.proofs.Numbers.{write-read}
 use Rattle.c_lent.specs.Answer.{buildAnswer, findAnswer, replaceAnswer}
-use Rattle.c_lent.specs.Lent.{Lent, numbersOf, beside, over}
+use Rattle.c_lent.specs.Lent.{Lent, numbersOf, beside, rewritten}
 use Rattle.c_lent.specs.declared.Answer.{Answer}
-use Rattle.c_lent.proofs.Lists.{beside-same, over-same}
+use Rattle.c_lent.proofs.Lists.{beside-same, rewritten-same}
 use Rattle.host.specs.Runs.{heldNumbers}
 use Rattle.host.specs.Promises.{Zero-tells, Build-for-C-one, Find-for-C-one, Replace-for-C-one, Build-for-C-refused, Find-for-C-refused, Replace-for-C-refused, FoundNumbers, Build-crosses, Find-crosses, Replace-crosses, Run-for-C, Putting-back-for-C, Find-after-build-for-C}
 use Rattle.host.proofs.Crossing as crossing
@@ -83,7 +83,7 @@ find-for-c-one a P q out =
 pub replace-for-c-one : Replace-for-C-one
 replace-for-c-one a b n v p =
     let one = replace-one a (numbersOf b) n v p in
-    let say : Replaced × Programme → Answer × Lent = λ x. (replaceAnswer (x .0), over b (x .1)) in
+    let say : Replaced × Programme → Answer × Lent = λ x. (replaceAnswer (x .0), rewritten b (x .1)) in
     record {
       some = say (one .some);
       holds = record { outcome = one .some .0; left = one .some .1; call = one .holds; answer = refl; bytes = refl };
@@ -112,7 +112,7 @@ replace-for-c-refused a b n v p r b′ small c not = go (c .outcome) (c .call) (
   where
     go : (o : Replaced) → Replacement a (numbersOf b) n v p o (c .left) → r ≡ replaceAnswer o → b′ ≡ b
     go (Done m d) o e = absurd (not (ap (λ (x : Answer). x .refusal) e))
-    go (Unreplaced x) o e = c .bytes ∙ ap (over b) (stayed a (numbersOf b) n v p (c .left) x o) ∙ over-same b small
+    go (Unreplaced x) o e = c .bytes ∙ ap (rewritten b) (stayed a (numbersOf b) n v p (c .left) x o) ∙ rewritten-same b small
 
 -- ---- what crosses
 

@@ -23,7 +23,7 @@ use Rattle.sparrowhem.specs.declared.edit.Replaced.{Replaced}
 use Rattle.promises.specs.Demands.{Follows}
 use Rattle.wire.specs.Wire.{numbers, Bytes}
 use Rattle.c_lent.specs.Answer.{granted, refused, buildAnswer, findAnswer, replaceAnswer}
-use Rattle.c_lent.specs.Lent.{Lent, Small, numbersOf}
+use Rattle.c_lent.specs.Lent.{Lent, AreBytes, numbersOf}
 use Rattle.c_lent.specs.Calls.{BuiltBytes, FoundBytes, ReplacedBytes}
 use Rattle.c_lent.specs.declared.Answer.{Answer}
 use Rattle.host.specs.Runs.{StateForC, CallForC, RunForC, heldNumbers, editsForC}
@@ -45,14 +45,14 @@ Replace-for-C-one = (a : Alphabet) (b : Lent) (n : ℕ) (v : List ℕ) (p : ℕ)
 
 -- A call that refuses has written no byte.
 abbrev pub Build-for-C-refused : Type 0
-Build-for-C-refused = (a : Alphabet) (b : Lent) (r : Answer) (b′ : Lent) → Small b → BuiltBytes a b r b′ → (r .refusal ≡ 0 → ⊥) → b′ ≡ b
+Build-for-C-refused = (a : Alphabet) (b : Lent) (r : Answer) (b′ : Lent) → AreBytes b → BuiltBytes a b r b′ → (r .refusal ≡ 0 → ⊥) → b′ ≡ b
 
 abbrev pub Find-for-C-refused : Type 0
 Find-for-C-refused = (a : Alphabet) (P : Programme) (q out : List ℕ) (r : Answer) (out′ : List ℕ) → Bytes out → FoundBytes a P q out r out′
     → (r .refusal ≡ 0 → ⊥) → out′ ≡ out
 
 abbrev pub Replace-for-C-refused : Type 0
-Replace-for-C-refused = (a : Alphabet) (b : Lent) (n : ℕ) (v : List ℕ) (p : ℕ) (r : Answer) (b′ : Lent) → Small b → ReplacedBytes a b n v p r b′
+Replace-for-C-refused = (a : Alphabet) (b : Lent) (n : ℕ) (v : List ℕ) (p : ℕ) (r : Answer) (b′ : Lent) → AreBytes b → ReplacedBytes a b n v p r b′
     → (r .refusal ≡ 0 → ⊥) → b′ ≡ b
 
 -- WHAT CROSSES. The bytes before a call and the bytes after it, both read as numbers, are what the Rattle call is lent and what it

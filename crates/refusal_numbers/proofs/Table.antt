@@ -394,5 +394,7 @@ table =
       too-long = too-long;
       output-short = output-short;
       plain-row = plain-row;
+      line = λ k. (refl, refl);
+      bytes = (refl, refl);
       order = order;
     }

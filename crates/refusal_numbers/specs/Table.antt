@@ -13,7 +13,8 @@ use Rattle.rows.specs.Parse.{table}
 use Rattle.rows.specs.Row.{symbol, allowed, reading}
 use Rattle.rows.specs.Refusals.{_then_, alphabetSize, aritiesFit, someLeaf, asKept, sizes, symbols, fresh, pattern, replacement, position, grown, output}
 use Rattle.rows.specs.declared.Leaves.the-variants.{Symbols, Blanks}
-use Rattle.rows.specs.declared.Refusal.the-variants.{Row, OnRecord}
+use Rattle.rows.specs.declared.Text.the-variants.{Line, Bytes}
+use Rattle.rows.specs.declared.Refusal.the-variants.{Row, OnRecord, Input}
 use Rattle.rows.specs.declared.Check.{Check}
 use Rattle.rows.specs.declared.Check.the-variants.{Fine, Refused}
 use Rattle.refusal_numbers.specs.Numbers.{number, place}
@@ -96,5 +97,8 @@ pub record Table : Type 0 where
   pub output-short : (n m k q : ℕ) → Refuses (output n m) k q ↔ ((k ≡ 19) × (q ≡ n) × (m < n))
   -- 4, 5, 7, 8, 9 of the plain matcher, which has no table
   pub plain-row : (A w : List ℕ) (k q : ℕ) → Refuses (asKept Row (reading A Symbols rowMost w)) k q ↔ WrongList 4 5 7 8 9 16384 A (symbol A) w k q
+  -- 60 and 61, of the program's input: a line, its number; too many bytes, 65,536
+  pub line : (k : ℕ) → (number (Input (Line k)) ≡ 60) × (place (Input (Line k)) ≡ k)
+  pub bytes : (number (Input Bytes) ≡ 61) × (place (Input Bytes) ≡ 65536)
   -- the order: of two checks, one after the other, the second refuses only where the first does not
   pub order : (a b : Check) (k q : ℕ) → Refuses (a then b) k q ↔ (Refuses a k q ⊎ ((a ≡ Fine) × Refuses b k q))

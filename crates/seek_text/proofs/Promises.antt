@@ -22,7 +22,7 @@ use Rattle.decimal.specs.Lines.{line, Small}
 use Rattle.decimal.proofs.Promises.{one-line}
 use Rattle.decimal.proofs.Deciding.{Lined, line?}
 use Rattle.seek_print.specs.Print.{refusalText, countText}
-use Rattle.seek_text.specs.Seek.{inputMost, Says, Faulty, Faulty.here, Faulty.later, Faulty.extra, Refuses, Refuses.long, Refuses.faulty, seekCheck, lineText, joined, Prints, Prints.input-refused, Prints.lists-refused, Prints.lists-searched}
+use Rattle.seek_text.specs.Seek.{inputMost, Says, Faulty, Faulty.here, Faulty.later, Faulty.extra, InputRefused, InputRefused.long, InputRefused.faulty, seekCheck, lineText, joined, Prints, Prints.input-refused, Prints.lists-refused, Prints.lists-searched}
 use Rattle.seek_text.specs.Pages.{linesOf}
 use Rattle.seek_text.specs.Promises.{Text-says, Input-accepted, Seek-one, Pages-whole}
 use Rattle.seek_text.proofs.Finding.{fine-listed}
@@ -57,7 +57,7 @@ text-says b A w q A′ w′ q′ s t =
     let l₃ = one-line q q′ [] [] (append-nil (line q) ∙ l₂ .1 ∙ sym (append-nil (line q′))) in
     (l₁ .0, l₂ .0, l₃ .0)
 
-says-short : {b A w q : List ℕ} {r : Refusal} → Says b A w q → length b ≤ inputMost → Refuses b r → ⊥
+says-short : {b A w q : List ℕ} {r : Refusal} → Says b A w q → length b ≤ inputMost → InputRefused b r → ⊥
 says-short s h (long l) = omega arith
 says-short s h (faulty l f) = says-fine s f
 
@@ -104,7 +104,7 @@ says-or-faulty b = line-first 2 1 b (λ l. line-first 1 2 (l .rest) (λ m. line-
 
 -- an input is accepted, or the program refuses it
 abbrev Taken : List ℕ → Type 0
-Taken b = ((length b ≤ inputMost) × Lists b) ⊎ ((r : Refusal) × Refuses b r)
+Taken b = ((length b ≤ inputMost) × Lists b) ⊎ ((r : Refusal) × InputRefused b r)
 
 taken : (b : List ℕ) → Taken b
 taken b = go (leb (length b) inputMost) refl
@@ -120,11 +120,11 @@ taken b = go (leb (length b) inputMost) refl
 pub input-accepted : Input-accepted
 input-accepted b = (λ h. accepted h (taken b), λ h r f. says-short (h .1 .3) (h .0) f)
   where
-    accepted : ((r : Refusal) → Refuses b r → ⊥) → Taken b → (length b ≤ inputMost) × Lists b
+    accepted : ((r : Refusal) → InputRefused b r → ⊥) → Taken b → (length b ≤ inputMost) × Lists b
     accepted h (inl l) = l
     accepted h (inr f) = absurd (h (f .0) (f .1))
 
-one-refusal : {b : List ℕ} {r s : Refusal} → Refuses b r → Refuses b s → r ≡ s
+one-refusal : {b : List ℕ} {r s : Refusal} → InputRefused b r → InputRefused b s → r ≡ s
 one-refusal (long h) (long g) = refl
 one-refusal (long h) (faulty g f) = absurd (omega arith)
 one-refusal (faulty h f) (long g) = absurd (omega arith)

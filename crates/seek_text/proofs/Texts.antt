@@ -13,7 +13,7 @@ use Rattle.decimal.specs.Inside.{HasLine, LineRead, LineRoom}
 use Rattle.decimal.specs.declared.Cursor.{Cursor}
 use Rattle.decimal.proofs.Writing.{written-append}
 use Rattle.decimal.proofs.Lining.{line-begins, room-next}
-use Rattle.seek_text.specs.Seek.{inputMost, NoLine, Faulty, Faulty.here, Faulty.later, Faulty.extra, Refuses, Refuses.faulty}
+use Rattle.seek_text.specs.Seek.{inputMost, NoLine, Faulty, Faulty.here, Faulty.later, Faulty.extra, InputRefused, InputRefused.faulty}
 use Rattle.seek_text.specs.Inside.{ListsRead, numbersMost}
 
 -- the first line's cursor
@@ -31,30 +31,30 @@ none-line : (b : List ℕ) (at : ℕ) → None b at → NoLine (drop at b)
 none-line b at h ns z small e = h ns _ (line-begins b at ns z small e)
 
 module _ (b y : List ℕ) (short : length b ≤ inputMost) where
-  pub refused-first : (k : ℕ) → None b 0 × (k ≡ 1) → Refuses b (Input (text.Line k))
+  pub refused-first : (k : ℕ) → None b 0 × (k ≡ 1) → InputRefused b (Input (text.Line k))
   refused-first k h = rw (h .1) (faulty short (here (none-line b 0 (h .0))))
 
   module _ {a : ℕ} {d₁ : Cursor} {y₁ : List ℕ} (l₁ : LineRead b top y 0 a d₁ y₁) where
     -- a fault behind the first line
-    after-first : {k : ℕ} → Faulty 2 2 (drop (d₁ .at) b) k → Refuses b (Input (text.Line k))
+    after-first : {k : ℕ} → Faulty 2 2 (drop (d₁ .at) b) k → InputRefused b (Input (text.Line k))
     after-first f = faulty short (later (l₁ .numbers) (drop (d₁ .at) b) (l₁ .stands .small) (l₁ .stands .text) f)
 
-    pub refused-second : (k : ℕ) → None b (d₁ .at) × (k ≡ d₁ .line) → Refuses b (Input (text.Line k))
+    pub refused-second : (k : ℕ) → None b (d₁ .at) × (k ≡ d₁ .line) → InputRefused b (Input (text.Line k))
     refused-second k h =
         let e : k ≡ 2 = h .1 ∙ l₁ .next in
         rw e (after-first (here (none-line b (d₁ .at) (h .0))))
 
     module _ {r : ℕ} {d₂ : Cursor} {y₂ : List ℕ} (l₂ : LineRead b d₁ y₁ a r d₂ y₂) where
-      after-second : {k : ℕ} → Faulty 1 3 (drop (d₂ .at) b) k → Refuses b (Input (text.Line k))
+      after-second : {k : ℕ} → Faulty 1 3 (drop (d₂ .at) b) k → InputRefused b (Input (text.Line k))
       after-second f = after-first (later (l₂ .numbers) (drop (d₂ .at) b) (l₂ .stands .small) (l₂ .stands .text) f)
 
-      pub refused-third : (k : ℕ) → None b (d₂ .at) × (k ≡ d₂ .line) → Refuses b (Input (text.Line k))
+      pub refused-third : (k : ℕ) → None b (d₂ .at) × (k ≡ d₂ .line) → InputRefused b (Input (text.Line k))
       refused-third k h =
           let e : k ≡ 3 = h .1 ∙ l₂ .next ∙ ap (λ n. n + 1) (l₁ .next) in
           rw e (after-second (here (none-line b (d₂ .at) (h .0))))
 
       module _ {p : ℕ} {d₃ : Cursor} {y₃ : List ℕ} (l₃ : LineRead b d₂ y₂ r p d₃ y₃) where
-        pub refused-fourth : d₃ .at < length b → Refuses b (Input (text.Line (d₃ .line)))
+        pub refused-fourth : d₃ .at < length b → InputRefused b (Input (text.Line (d₃ .line)))
         refused-fourth h =
             let e : d₃ .line ≡ 4 = l₃ .next ∙ ap (λ n. n + 1) (l₂ .next ∙ ap (λ n. n + 1) (l₁ .next)) in
             rw e (after-second (later (l₃ .numbers) (drop (d₃ .at) b) (l₃ .stands .small) (l₃ .stands .text) (extra (rw length-drop (omega arith)))))

@@ -13,7 +13,7 @@ use Rattle.patterns.specs.Searchable.{Checked}
 use Rattle.decimal.specs.Inside.{Printed}
 use Rattle.sparrowhem.specs.declared.search.Found.{Found}
 use Rattle.sparrowhem.specs.declared.search.Found.the-variants as found
-use Rattle.seek_text.specs.Seek.{inputMost, Says, Refuses, seekCheck, lineText}
+use Rattle.seek_text.specs.Seek.{inputMost, Says, InputRefused, seekCheck, lineText}
 use Rattle.seek_text.specs.declared.search.Response.{Response}
 use Rattle.seek_text.specs.declared.search.Response.the-variants as response
 use Rattle.seek_text.specs.declared.input.Input.{Input}
@@ -39,7 +39,7 @@ pub record ListsRead (b y : List ℕ) (a r p : ℕ) (y′ : List ℕ) : Type 0 w
 -- what reading an input into the buffer y answers, and what it leaves there (of no use after a refusal)
 abbrev pub InputRead : List ℕ → List ℕ → Input → List ℕ → Type 0
 InputRead b y (Lists a r p) y′ = ListsRead b y a r p y′
-InputRead b y (Refused f) y′ = Refuses b f
+InputRead b y (Refused f) y′ = InputRefused b f
 
 -- an accepted row with its table t and an accepted pattern, whose matches are the positions ps
 pub record Ready (A w t q ps : List ℕ) : Type 0 where

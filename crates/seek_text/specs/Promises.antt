@@ -6,7 +6,7 @@ use mathlib.Core.Logic.{_↔_}
 use lib.ListN.{length}
 use Rattle.rows.specs.declared.Refusal.{Refusal}
 use Rattle.rows.specs.Buffers.{One}
-use Rattle.seek_text.specs.Seek.{inputMost, Says, Refuses, Prints}
+use Rattle.seek_text.specs.Seek.{inputMost, Says, InputRefused, Prints}
 use Rattle.seek_text.specs.Pages.{linesOf, Answered, Pages}
 use Rattle.seek_text.specs.declared.search.Response.{Response}
 
@@ -17,7 +17,7 @@ Text-says = (b A w q A′ w′ q′ : List ℕ) → Says b A w q → Says b A′
 -- An input is accepted, that is, the program refuses nothing by itself, exactly if it has at most 65,536 bytes and they say
 -- three lists.
 abbrev pub Input-accepted : Type 0
-Input-accepted = (b : List ℕ) → ((r : Refusal) → Refuses b r → ⊥) ↔ ((length b ≤ inputMost) × ((A w q : List ℕ) × Says b A w q))
+Input-accepted = (b : List ℕ) → ((r : Refusal) → InputRefused b r → ⊥) ↔ ((length b ≤ inputMost) × ((A w q : List ℕ) × Says b A w q))
 
 -- For every input, whatever its bytes, there is one text that `seek` prints, and no other.
 abbrev pub Seek-one : Type 0

@@ -40,9 +40,9 @@ pub data Faulty : ℕ → ℕ → List ℕ → ℕ → Type 0 where
   extra : {i : ℕ} {b : List ℕ} → 0 < length b → Faulty zero i b i
 
 -- what the program refuses by itself: 61, too many bytes; then 60, a faulty, missing or fourth line
-pub data Refuses (b : List ℕ) : Refusal → Type 0 where
-  long : inputMost < length b → Refuses b (Input Bytes)
-  faulty : {k : ℕ} → length b ≤ inputMost → Faulty 3 1 b k → Refuses b (Input (Line k))
+pub data InputRefused (b : List ℕ) : Refusal → Type 0 where
+  long : inputMost < length b → InputRefused b (Input Bytes)
+  faulty : {k : ℕ} → length b ≤ inputMost → Faulty 3 1 b k → InputRefused b (Input (Line k))
 
 -- the library's refusals that an input can meet, in their order: 1 to 5, 7 to 9, 11 to 15
 unfoldable pub seekCheck : List ℕ → List ℕ → List ℕ → Check
@@ -60,7 +60,7 @@ joined (l ∷ ls) = l ++ joined ls
 -- What `seek` prints for the input b: a refusal of its own; else a refusal of the library for the three lists that the
 -- input says; else the number of the matches and their lines.
 pub data Prints (b : List ℕ) : List ℕ → Type 0 where
-  input-refused : {r : Refusal} → Refuses b r → Prints b (refusalText r)
+  input-refused : {r : Refusal} → InputRefused b r → Prints b (refusalText r)
   lists-refused : (A w q : List ℕ) {r : Refusal} → length b ≤ inputMost → Says b A w q → seekCheck A w q ≡ Refused r → Prints b (refusalText r)
   lists-searched : (A w q ps : List ℕ) → length b ≤ inputMost → Says b A w q → seekCheck A w q ≡ Fine → Listed (alphabetOf A) w q (length w) ps
       → Prints b (countText (length ps) ++ joined (map (lineText A w q) ps))

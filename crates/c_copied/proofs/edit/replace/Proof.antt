@@ -13,7 +13,7 @@ use Rattle.rows.specs.declared.Check.{Check}
 use Rattle.rows.specs.declared.Check.the-variants.{Fine, Refused}
 use Rattle.wire.specs.Wire.{numbers}
 use Rattle.c_lent.specs.Answer.{refusedBy}
-use Rattle.c_lent.specs.Lent.{Lent, lent, Small, numbersOf}
+use Rattle.c_lent.specs.Lent.{Lent, lent, AreBytes, numbersOf}
 use Rattle.c_lent.proofs.Checks.{sizesCheck}
 use Rattle.c_copied.proofs.Checks.{copyable}
 use Rattle.c_copied.proofs.Editing.{replace-refused, replace-long}
@@ -37,7 +37,7 @@ module _ (c : tie.After-check-sizes) where
   abbrev n : ℕ
   n = start .args .n
 
-  small : Small b
+  small : AreBytes b
   small = let k = c .before .before .before .before .before .before .before in record { row = λ i. k .before .slice-known .given i .fits; table = λ i. k .slice-known2 .given i .fits }
 
   sized : (r : Check) → c .check-sizes .result ≡ r → sizesCheck a (numbersOf b) n ≡ r

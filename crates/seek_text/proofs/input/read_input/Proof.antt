@@ -2,7 +2,7 @@
 -- Assumes nothing.
 use Rattle.decimal.specs.Inside.{LineRead, LineRoom}
 use Rattle.decimal.proofs.Lining.{room-next}
-use Rattle.seek_text.specs.Seek.{Refuses.long}
+use Rattle.seek_text.specs.Seek.{InputRefused.long}
 use Rattle.seek_text.proofs.Texts.{top, top-room, refused-first, refused-second, refused-third, refused-fourth, lists-read}
 use borrow.Author.Needs.{needs}
 use Rattle.seek_text.proofs.input.read_input.Statement.{statement}
