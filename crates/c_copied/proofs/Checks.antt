@@ -18,9 +18,9 @@ use Rattle.rows.specs.declared.Check.{Check}
 use Rattle.rows.specs.declared.Check.the-variants.{Fine, Refused}
 use Rattle.rows.proofs.Passing.{both-fine, sizes-fits}
 use Rattle.checks.proofs.Passing.{alphabet-few}
-use Rattle.c_lent.specs.Answer.{refused, refusedBy}
+use Rattle.c_lent.specs.Answer.{refused}
 use Rattle.c_lent.proofs.Checks.{then-assoc, sizesCheck}
-use Rattle.c_copied.specs.Copies.{Copyable}
+use Rattle.c_copied.specs.Copies.{Copyable, refusedBy}
 
 -- what refusals 1 to 6 leave, and what leaves nothing for 4, 5 and 6
 pub copyable : (a : Alphabet) (P : Programme) (n : ℕ) → sizesCheck a P n ≡ Fine → Copyable (a .arities) n (room P)

@@ -30,10 +30,11 @@ use Rattle.sparrowhem.specs.declared.search.Found.{Found}
 use Rattle.sparrowhem.specs.declared.search.Found.the-variants.{Matches, Refused as Unfound}
 use Rattle.checks.proofs.Passing.{search-checked}
 use Rattle.sparrowhem.proofs.Searching.{finds-refused}
-use Rattle.c_lent.specs.Answer.{granted, refused, refusedBy, findAnswer}
+use Rattle.c_lent.specs.Answer.{granted, refused, findAnswer}
 use Rattle.c_lent.specs.Calls.{FoundBytes}
 use Rattle.c_lent.specs.declared.Answer.{Answer}
 use Rattle.c_lent.proofs.Checks.{sizesCheck}
+use Rattle.c_copied.specs.Copies.{refusedBy}
 use Rattle.c_copied.proofs.Checks.{given-refused, given-kept, pattern-long, first-refusal}
 
 -- n matches fit in m places, or in those of them that a row can fill

@@ -19,11 +19,6 @@ granted n d = record { refusal = 0; change = d; place = 0; count = n }
 abbrev pub refused : Refusal → Answer
 refused r = record { refusal = number r; change = pos 0; place = place r; count = 0 }
 
--- the first of a check and a refusal behind it
-abbrev pub refusedBy : Check → Refusal → Answer
-refusedBy Fine q = refused q
-refusedBy (Refused r) q = refused r
-
 -- build: the count is the row's length n
 abbrev pub buildAnswer : Check → ℕ → Answer
 buildAnswer Fine n = granted n (pos 0)

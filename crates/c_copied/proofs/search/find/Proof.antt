@@ -13,10 +13,9 @@ use Rattle.rows.specs.declared.Refusal.the-variants.{Row, Pattern}
 use Rattle.rows.specs.declared.Check.{Check}
 use Rattle.rows.specs.declared.Check.the-variants.{Fine, Refused}
 use Rattle.wire.specs.Wire.{numbers, Bytes}
-use Rattle.c_lent.specs.Answer.{refusedBy}
 use Rattle.c_lent.specs.Lent.{lent, numbersOf}
 use Rattle.c_lent.proofs.Checks.{sizesCheck}
-use Rattle.c_copied.specs.Copies.{Copyable}
+use Rattle.c_copied.specs.Copies.{Copyable, refusedBy}
 use Rattle.c_copied.proofs.Checks.{copyable}
 use Rattle.c_copied.proofs.Found.{find-refused, find-long}
 use borrow.Author.Needs.{needs}
