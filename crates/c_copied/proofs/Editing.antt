@@ -24,23 +24,13 @@ use Rattle.sparrowhem.specs.declared.edit.Replaced.{Replaced}
 use Rattle.sparrowhem.specs.declared.edit.Replaced.the-variants.{Done, Refused as Unreplaced}
 use Rattle.wire.specs.Wire.{numbers, bytesOf, Bytes}
 use Rattle.wire.proofs.Numbers.{written-again}
-<<<<<<< HEAD
-use Rattle.c_lent.specs.Answer.{granted, refused, refusedBy, replaceAnswer}
+use Rattle.c_lent.specs.Answer.{granted, refused, replaceAnswer}
 use Rattle.c_lent.specs.Lent.{Lent, lent, AreBytes, numbersOf, rewritten}
 use Rattle.c_lent.specs.Calls.{ReplacedBytes}
 use Rattle.c_lent.specs.declared.Answer.{Answer}
 use Rattle.c_lent.proofs.Checks.{sizesCheck}
 use Rattle.c_lent.proofs.Lists.{rewritten-same}
-use Rattle.c_copied.specs.Copies.{Copyable}
-=======
-use Rattle.c_lent.specs.Answer.{granted, refused, replaceAnswer}
-use Rattle.c_lent.specs.Lent.{Lent, lent, Small, numbersOf, over}
-use Rattle.c_lent.specs.Calls.{ReplacedBytes}
-use Rattle.c_lent.specs.declared.Answer.{Answer}
-use Rattle.c_lent.proofs.Checks.{sizesCheck}
-use Rattle.c_lent.proofs.Lists.{over-same}
 use Rattle.c_copied.specs.Copies.{Copyable, refusedBy}
->>>>>>> host
 use Rattle.c_copied.proofs.Checks.{given-refused, given-kept, replacement-long, first-refusal}
 use Rattle.c_copied.proofs.Cut.{take-most, onto, replaced-cut}
 

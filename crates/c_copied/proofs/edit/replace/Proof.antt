@@ -12,12 +12,7 @@ use Rattle.rows.specs.declared.Refusal.the-variants.{Row, Replacement}
 use Rattle.rows.specs.declared.Check.{Check}
 use Rattle.rows.specs.declared.Check.the-variants.{Fine, Refused}
 use Rattle.wire.specs.Wire.{numbers}
-<<<<<<< HEAD
-use Rattle.c_lent.specs.Answer.{refusedBy}
 use Rattle.c_lent.specs.Lent.{Lent, lent, AreBytes, numbersOf}
-=======
-use Rattle.c_lent.specs.Lent.{Lent, lent, Small, numbersOf}
->>>>>>> host
 use Rattle.c_lent.proofs.Checks.{sizesCheck}
 use Rattle.c_copied.specs.Copies.{refusedBy}
 use Rattle.c_copied.proofs.Checks.{copyable}
