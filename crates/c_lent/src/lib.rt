@@ -11,7 +11,7 @@ mod table;
 pub use scan::check_sizes;
 pub use table::build;
 
-// An answer, as it crosses. `refusal` is 0 or document 01's number.
+// An answer, as it crosses. `refusal` is 0 or the number of the refusal (docs/SCOPE.md).
 #[repr(C)]
 pub struct Answer {
     pub refusal: u32,
