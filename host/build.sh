@@ -1,6 +1,7 @@
 #!/bin/sh
 # build.sh [PREFIX]: proves and builds the archive, and builds the example over it, in target/host; with PREFIX, installs
-# archive, header and pkg-config file there. On x86-64 the example is built by CC (default cc), elsewhere by the kit.
+# archive, header and pkg-config file there, and the program seek, proved and built as well, with its man page. On x86-64
+# the example is built by CC (default cc), elsewhere by the kit.
 set -eu
 cd "$(dirname "$0")/.."
 prefix=${1:-}
@@ -16,9 +17,12 @@ else
 fi
 echo "built $out/libsparrowhem.a and $out/example"
 [ -n "$prefix" ] || exit 0
-version=$(sed -n 's/^#define SPARROWHEM_VERSION "\(.*\)"$/\1/p' include/sparrowhem.h)
-mkdir -p "$prefix/lib/pkgconfig" "$prefix/include"
+version=$(sed -n 's/^#define SPARROWHEM_VERSION  *"\(.*\)"$/\1/p' include/sparrowhem.h)
+rt check seek
+mkdir -p "$prefix/lib/pkgconfig" "$prefix/include" "$prefix/bin" "$prefix/share/man/man1"
 cp $out/libsparrowhem.a "$prefix/lib/"
 cp include/sparrowhem.h "$prefix/include/"
+cp target/bin/seek "$prefix/bin/"
+cp man/seek.1 "$prefix/share/man/man1/"
 sed "s,@prefix@,$prefix,; s,@version@,$version," sparrowhem.pc.in >"$prefix/lib/pkgconfig/sparrowhem.pc"
 echo "installed below $prefix"

@@ -18,9 +18,10 @@
 **
 ** PATTERN
 **
-** A row whose leaves may also be the blank SPARROWHEM_ANY, which stands for
-** any one subtree, each on its own, or a variable SPARROWHEM_VARIABLE(0) to
-** SPARROWHEM_VARIABLE(15); equal variables stand for equal subtrees.
+** A row whose leaves may also be the blank SPARROWHEM_ANY (S in refusals),
+** which stands for any one subtree, each on its own, or a variable
+** SPARROWHEM_VARIABLE(0) to SPARROWHEM_VARIABLE(15); equal variables stand
+** for equal subtrees.
 **
 ** NUMBERS ARE LENT AS BYTES
 **
@@ -30,6 +31,11 @@
 ** nor written: 17 bytes are 8 numbers.  The bytes may begin at any address,
 ** odd ones too.  A null pointer with count 0 is an empty list.  Lengths,
 ** positions and places count NUMBERS, not bytes.
+**
+** On a little-endian machine an array of uint16_t is such a list as it
+** stands: `(const uint8_t *)row, 2 * n` lends its first n numbers, and
+** `(uint8_t *)table, 2 * n` lends it to be written.  Elsewhere
+** sparrowhem_get and sparrowhem_put read and write a number of a list.
 **
 ** EVERY INPUT IS ANSWERED
 **
@@ -66,7 +72,12 @@
 extern "C" {
 #endif
 
-#define SPARROWHEM_VERSION "1.0.0"
+/*
+** The version: as a string, and as a number that grows with it, a million for
+** the first part, a thousand for the second, one for the third.
+*/
+#define SPARROWHEM_VERSION        "1.1.0"
+#define SPARROWHEM_VERSION_NUMBER 1001000
 
 /*
 ** Limits: symbols in an alphabet, an arity, numbers in a row or in a
@@ -93,9 +104,9 @@ extern "C" {
 ** Why a call refuses, each with the place that it gives.
 **
 ** Where several apply, the first in this order is given: 1 to 10; then 11 to
-** 15, or 24 to 29; then 17, 18, 19.  A row, a pattern or a replacement is
-** read from left to right, up to its first fault; a number that stands
-** behind the tree's end is 9, 15 or 29, whatever it is.
+** 15, or 24, 25, 27, 28, 29; then 17, 18, 19.  A row, a pattern or a
+** replacement is read from left to right, up to its first fault; a number
+** that stands behind the tree's end is 9, 15 or 29, whatever it is.
 */
 enum {
   SPARROWHEM_ANSWERED          = 0,
@@ -145,6 +156,81 @@ enum {
   SPARROWHEM_REPLACEMENT_EARLY = 28,
   SPARROWHEM_REPLACEMENT_EXTRA = 29
 };
+
+/*
+** What a refusal's number means, in words, for a log.  The words stay for
+** good: they need not be copied.
+*/
+static inline const char *sparrowhem_refusal_text(uint32_t refusal){
+  switch( refusal ){
+    case SPARROWHEM_ANSWERED:
+      return "the call has answered";
+    case SPARROWHEM_ALPHABET_SIZE:
+      return "the alphabet has no symbol, or more than 1,024";
+    case SPARROWHEM_ARITY_OVER:
+      return "an arity is above 15";
+    case SPARROWHEM_NO_LEAF:
+      return "every arity is above 0";
+    case SPARROWHEM_ROW_EMPTY:
+      return "the row length is 0";
+    case SPARROWHEM_ROW_LONG:
+      return "the row length is above 16,384";
+    case SPARROWHEM_BUFFER_SHORT:
+      return "the table, or for replace the buffer that holds the row, has "
+             "fewer places than the row length";
+    case SPARROWHEM_ROW_STRAY:
+      return "the row holds a number that is no symbol";
+    case SPARROWHEM_ROW_EARLY:
+      return "the row is at its end and its tree is not";
+    case SPARROWHEM_ROW_EXTRA:
+      return "the tree is at its end and the row is not";
+    case SPARROWHEM_STALE:
+      return "the table is stale: an entry is not the row's";
+    case SPARROWHEM_PATTERN_EMPTY:
+      return "the pattern has length 0";
+    case SPARROWHEM_PATTERN_LONG:
+      return "the pattern is longer than 256";
+    case SPARROWHEM_PATTERN_STRAY:
+      return "the pattern holds a number that is no symbol, nor S, nor a "
+             "variable";
+    case SPARROWHEM_PATTERN_EARLY:
+      return "the pattern is at its end and its tree is not";
+    case SPARROWHEM_PATTERN_EXTRA:
+      return "the tree is at its end and the pattern is not";
+    case SPARROWHEM_POSITION:
+      return "the position is the row length or more";
+    case SPARROWHEM_TOO_LONG:
+      return "the row would after the replacement be longer than 16,384, "
+             "than its buffer or than the table";
+    case SPARROWHEM_OUTPUT_SHORT:
+      return "the output has too few places";
+    case SPARROWHEM_REPLACEMENT_EMPTY:
+      return "the replacement has length 0";
+    case SPARROWHEM_REPLACEMENT_LONG:
+      return "the replacement is longer than 16,384";
+    case SPARROWHEM_REPLACEMENT_STRAY:
+      return "the replacement holds a number that is no symbol";
+    case SPARROWHEM_REPLACEMENT_EARLY:
+      return "the replacement is at its end and its tree is not";
+    case SPARROWHEM_REPLACEMENT_EXTRA:
+      return "the tree is at its end and the replacement is not";
+    default:
+      return "no call gives this number";
+  }
+}
+
+/*
+** Number i of a list that is lent as bytes: read, and written.  The list has
+** more than i numbers.
+*/
+static inline uint16_t sparrowhem_get(const uint8_t *list, size_t i){
+  return (uint16_t)(list[2*i] | list[2*i + 1]<<8);
+}
+
+static inline void sparrowhem_put(uint8_t *list, size_t i, uint16_t number){
+  list[2*i] = (uint8_t)(number & 255u);
+  list[2*i + 1] = (uint8_t)(number>>8);
+}
 
 /*
 ** An answer: 24 bytes, returned by value.
@@ -207,8 +293,8 @@ sparrowhem_answer sparrowhem_find(
 ** SPARROWHEM_FREED_ROW in the row and SPARROWHEM_FREED_TABLE in the table.
 ** Numbers behind these stay.
 **
-** Refuses with 1 to 10, 17, 18 and 24 to 29.  Putting the old subtree
-** straight back is never refused.
+** Refuses with 1 to 10, 17, 18, 24, 25, 27, 28 and 29.  Putting the old
+** subtree straight back is never refused.
 */
 sparrowhem_answer sparrowhem_replace(
   const uint8_t *arities,     size_t arities_bytes,
@@ -237,12 +323,12 @@ sparrowhem_answer sparrowhem_replace(
 **                           out, sizeof out);
 **     }
 **     if( a.refusal != SPARROWHEM_ANSWERED ){
-**       printf("refused: %u at %llu\n", (unsigned)a.refusal,
+**       printf("refused: %s (%llu)\n", sparrowhem_refusal_text(a.refusal),
 **              (unsigned long long)a.place);
 **     }
 **
-** After this a.count is 2, and out begins with 1, 0, 2, 0: the positions 1
-** and 2.  host/example.c is a longer one.
+** After this a.count is 2, and sparrowhem_get(out, 0) and (out, 1) are the
+** positions 1 and 2.  host/example.c is a longer one.
 */
 
 #ifdef __cplusplus

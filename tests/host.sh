@@ -48,13 +48,21 @@ drive() {
 }
 
 noticed() { ! drive "$@" >$out/noticed && grep -q '^FAILED: seed' $out/noticed; }
-header_as() { "$@" -Wall -Wextra -Werror -Iinclude -fsyntax-only include/sparrowhem.h; }
+header_as() { echo '#include <sparrowhem.h>' | "$@" -Wall -Wextra -Werror -Iinclude -fsyntax-only -; }
+texts_of_scope() {
+    kit_run $out/texts | diff <(sed -nE '/^## Refusals/,/^### /{ /`seek`/d; s/^\| ([0-9]+) \| ([^|]+) \|.*/\1 \2/p }' docs/SCOPE.md) -
+}
 example_as_shown() { kit_run $out/shown | diff tests/host/example.out -; }
 example_installed() {
     local prefix=$PWD/$out/prefix
     rm -rf "$prefix"
     sh host/build.sh "$prefix" && ! grep -q @ "$prefix/lib/pkgconfig/sparrowhem.pc" && $out/example | diff tests/host/example.out - &&
         gcc -std=c99 -I"$prefix/include" -o $out/installed host/example.c -L"$prefix/lib" -lsparrowhem && $out/installed | diff tests/host/example.out -
+}
+seek_installed() {
+    local prefix=$PWD/$out/prefix
+    env -i "$prefix/bin/seek" <examples/programme.txt | diff <(printf 'matches 2\nat 1 4 0:2-3\nat 6 9 0:7-8\n') - &&
+        cmp man/seek.1 "$prefix/share/man/man1/seek.1" && grep -q "Sparrowhem $(sed -n 's/^Version: //p' "$prefix/lib/pkgconfig/sparrowhem.pc")" man/seek.1
 }
 checks_by_gcc() {
     gcc -std=c99 -pedantic -O2 -Wall -Wextra -Werror -Iinclude -o $out/checks_gcc tests/host/checks.c target/staticlib/libhost.a
@@ -66,10 +74,13 @@ try "the header is C11" header_as gcc -x c -std=c11 -pedantic
 try "the header is C++" header_as "$kit_tools/bin/clang" --target=$kit_target -nostdinc -isystem host/freestanding -x c++ -std=c++11 -pedantic
 try "the example, compiled by the kit" kit_cc $out/shown host/example.c
 try "the example prints what it should" example_as_shown
+try "the texts of refusals, compiled by the kit" kit_cc $out/texts tests/host/texts.c
+try "are those of docs/SCOPE.md" texts_of_scope
 try "the checks, compiled by the kit" kit_cc $out/checks tests/host/checks.c
 counted "the checks" kit_run $out/checks
 if [ "$(uname -m)" = x86_64 ]; then
     try "the example, by the machine's own compiler and as installed" example_installed
+    try "seek as installed, without the kit, and its man page" seek_installed
     try "the checks, compiled by gcc" checks_by_gcc
     counted "the checks, by gcc" $out/checks_gcc
 fi

@@ -354,8 +354,21 @@ static void stacks(void) {
     check_that("replace takes under 196 KiB of stack", r - empty < 196 * 1024);
 }
 
+/* What the header itself defines. */
+static void conveniences(void) {
+    char version[16];
+    uint8_t list[6] = {1, 2, 3, 4, 5, 6};
+    snprintf(version, sizeof version, "%d.%d.%d", SPARROWHEM_VERSION_NUMBER / 1000000, SPARROWHEM_VERSION_NUMBER / 1000 % 1000,
+        SPARROWHEM_VERSION_NUMBER % 1000);
+    check_that("the version's number is its string's", strcmp(version, SPARROWHEM_VERSION) == 0);
+    check_that("a number is read, the low byte first", sparrowhem_get(list, 1) == 0x0403);
+    sparrowhem_put(list, 1, 0xFE01);
+    check_that("and written, no other byte with it", memcmp(list, "\x01\x02\x01\xFE\x05\x06", 6) == 0 && sparrowhem_get(list, 1) == 0xFE01);
+}
+
 int main(void) {
     fill_lists();
+    conveniences();
     check_that("an answer is 24 bytes", sizeof(sparrowhem_answer) == 24);
     check_that("with its fields in order", offsetof(sparrowhem_answer, refusal) == 0 && offsetof(sparrowhem_answer, change) == 4
         && offsetof(sparrowhem_answer, place) == 8 && offsetof(sparrowhem_answer, count) == 16);
