@@ -6,6 +6,7 @@ pub mod Marks
 pub mod Walks
 pub mod Missing
 pub mod Matching
+pub mod Sizes
 pub mod Listing
 pub mod Facing
 pub mod Steps

@@ -1,24 +1,28 @@
 -- The search for the next match, position by position.
 -- Assumes nothing.
-use Prim.Native.Nat.{ℕ, _+_, _≤_, _<_}
+use Prim.Native.Nat.{ℕ, _+_, _-_, _≤_, _<_}
 use mathlib.Core.Path.{_≡_, refl, sym, ap, _∙_, subst}
 use mathlib.Core.List.{List}
-use mathlib.Core.Bool.{true, false}
+use mathlib.Core.Bool.{Bool, true, false}
 use native.Mathlib.Omega.{arith}
 use native.Mathlib.Decide.{ℕ-discrete}
+use borrow.Author.Tests.{ltb-true, leb-false}
+use lib.Dec.{ltb, leb}
 use lib.ListN.{getD, length}
 use Rattle.rows.specs.Programme.{Alphabet, Programme}
 use Rattle.rows.specs.Tree.{Forest, Forest.none, Tree, single, prefix, subtreeAt}
 use Rattle.rows.specs.Parse.{parse, treeOf}
+use Rattle.rows.specs.Row.{pick}
 use Rattle.patterns.specs.Pattern.{leaf, plug, filled}
 use Rattle.patterns.specs.Answers.{MatchesAt}
 use Rattle.patterns.specs.Searchable.{Checked, Searchable}
 use Rattle.patterns.specs.Walk.{sameSymbol, Outcome.misses, Outcome.reaches, walk, unmarked}
 use Rattle.patterns.specs.declared.Leaf.{Leaf}
 use Rattle.patterns.specs.declared.Leaf.the-variants.{Plain, Blank, Variable}
-use Rattle.patterns.proofs.Matching.{PatternOf, checked-pattern, walk-matches, missed}
+use Rattle.patterns.proofs.Matching.{PatternOf, checked-ends, checked-pattern, walk-matches, missed}
+use Rattle.patterns.proofs.Sizes.{size-at-least, size-exactly}
 use Rattle.patterns.proofs.Steps.{steps-same, steps-plain}
-use Rattle.searches.specs.Searches.{FirstFrom, NoneFrom}
+use Rattle.searches.specs.Searches.{AtMost, mayMatch, FirstFrom, NoneFrom}
 use Rattle.searches.proofs.Going.{lent-ends, Walking, walking-start, walking-to, walking-stops}
 
 -- S or a variable alone matches everywhere
@@ -63,14 +67,18 @@ module _ (P : Programme) (q : List ℕ) (from : ℕ) where
 
   module _ (p : ℕ) (h : Passed p) where
     module _ (inside : p < length (P .row)) where
-      -- a position where the walk misses
-      pub passed-more : (k y : ℕ) → walk (P .row) (P .table) 0 q p unmarked ≡ misses k y → Passed (p + 1)
-      passed-more k y z =
+      -- a position where there is no match
+      pub passed-more : ((a : Alphabet) → Checked a P q → MatchesAt a (P .row) q p → ⊥) → Passed (p + 1)
+      passed-more n =
           record { on = omega (arith, h .on); within = omega arith; none = λ a c x l u m. go a c x l u m (ℕ-discrete x p) }
         where
           go : (a : Alphabet) → Checked a P q → (x : ℕ) → from ≤ x → x < p + 1 → MatchesAt a (P .row) q x → Dec (x ≡ p) → ⊥
-          go a c x l u m (yes d) = missed a P q c p inside k y z (subst (λ (n : ℕ). MatchesAt a (P .row) q n) d m)
+          go a c x l u m (yes d) = n a c (subst (λ (n : ℕ). MatchesAt a (P .row) q n) d m)
           go a c x l u m (no d) = h .none a c x l (omega arith) m
+
+      -- such as one where the walk misses
+      pub passed-miss : (k y : ℕ) → walk (P .row) (P .table) 0 q p unmarked ≡ misses k y → Passed (p + 1)
+      passed-miss k y z = passed-more (λ a c. missed a P q c p inside k y z)
 
       -- one where it comes through
       pub next-here : (j : ℕ) (ms : List ℕ) → walk (P .row) (P .table) 0 q p unmarked ≡ reaches j ms → (a : Alphabet) → Checked a P q → FirstFrom a (P .row) q from p
@@ -79,6 +87,24 @@ module _ (P : Programme) (q : List ℕ) (from : ℕ) where
 
     pub next-none : length (P .row) ≤ p → (a : Alphabet) → Checked a P q → NoneFrom a (P .row) q from
     next-none l a c x f u m = h .none a c x f (omega arith) m
+
+-- HOW LARGE A MATCH CAN BE
+-- the first k numbers of the pattern are no blanks
+abbrev pub PlainTo : List ℕ → ℕ → Type 0
+PlainTo q k = (i : ℕ) → i < k → leaf (getD q i 0) ≡ Plain
+
+pub plain-more : (q : List ℕ) (k : ℕ) → PlainTo q k → leaf (getD q k 0) ≡ Plain → PlainTo q (k + 1)
+plain-more q k h z i l = go (ℕ-discrete i k)
+  where
+    go : Dec (i ≡ k) → leaf (getD q i 0) ≡ Plain
+    go (yes d) = ap (λ (n : ℕ). leaf (getD q n 0)) d ∙ z
+    go (no d) = h i (omega arith)
+
+pub row-at-most : (P : Programme) (q : List ℕ) (n : ℕ) → length (P .row) ≤ n → AtMost P q n
+row-at-most P q n h a c p l m = omega (arith, checked-ends a P q c .within p l)
+
+pub size-at-most : (P : Programme) (q : List ℕ) → PlainTo q (length q) → AtMost P q (length q)
+size-at-most P q n a c p l m = omega (arith, size-exactly a P q c p l m n)
 
 -- the root is compared first
 module _ (P : Programme) (q : List ℕ) (s : Searchable P q) (p : ℕ) (inside : p < length (P .row)) where
@@ -94,3 +120,29 @@ module _ (P : Programme) (q : List ℕ) (s : Searchable P q) (p : ℕ) (inside :
   pub root-other : sameSymbol (getD (P .row) p 0) (getD q 0 0) ≡ false → leaf (getD q 0 0) ≡ Plain → walk (P .row) (P .table) 0 q p unmarked ≡ misses 0 p
   root-other y k =
       walking-stops P q p s unmarked p 0 start some 0 p (steps-plain (P .row) (P .table) 0 (getD q 0 0) p unmarked y k) (P .table) (lent-ends P)
+
+  -- then the size
+  pub may-same : (least most : ℕ) → mayMatch (P .row) (P .table) (getD q 0 0) least most p ≡ true → sameSymbol (getD (P .row) p 0) (getD q 0 0) ≡ true
+  unfolding mayMatch
+  may-same least most y = go (sameSymbol (getD (P .row) p 0) (getD q 0 0)) _ y
+    where
+      go : (b c : Bool) → pick b c false ≡ true → b ≡ true
+      go true c y = refl
+      go false c y = y
+
+  -- how many the subtree has
+  abbrev symbols : ℕ
+  symbols = getD (P .table) p 0 - p
+
+  pub may-not : (most : ℕ) → AtMost P q most → leaf (getD q 0 0) ≡ Plain → mayMatch (P .row) (P .table) (getD q 0 0) (length q) most p ≡ false
+      → (a : Alphabet) → Checked a P q → MatchesAt a (P .row) q p → ⊥
+  unfolding mayMatch
+  may-not most b k y a c m =
+      go (sameSymbol (getD (P .row) p 0) (getD q 0 0)) (ltb symbols (length q)) (leb symbols most) refl refl refl y
+    where
+      go : (x u v : Bool) → sameSymbol (getD (P .row) p 0) (getD q 0 0) ≡ x → ltb symbols (length q) ≡ u → leb symbols most ≡ v
+          → pick x (pick u false v) false ≡ false → ⊥
+      go false u v r s t z = missed a P q c p inside 0 p (root-other r k) m
+      go true true v r s t z = let l : symbols < length q = ltb-true symbols (length q) s in omega (arith, size-at-least a P q c p inside m)
+      go true false true r s t z = let n : _≡_ {A = ℕ} 0 1 = cc in omega arith
+      go true false false r s t z = let l : most < symbols = leb-false symbols most t in omega (arith, b a c p inside m)

@@ -1,20 +1,31 @@
 -- Inside: no public contract cites what stands in this file, and no reader has to believe it.
 -- What the searches of this crate ask for, and what they promise to the public calls.
-use Prim.Native.Nat.{ℕ, _≤_, _<_}
+use Prim.Native.Nat.{ℕ, _+_, _-_, _≤_, _<_}
 use mathlib.Core.Path.{_≡_}
 use mathlib.Core.List.{List}
-use lib.ListN.{length}
+use mathlib.Core.Bool.{Bool, false}
+use lib.Dec.{ltb, leb}
+use lib.ListN.{length, getD}
 use Rattle.rows.specs.Programme.{Alphabet, Programme}
 use Rattle.rows.specs.Parse.{table}
+use Rattle.rows.specs.Row.{pick}
 use Rattle.rows.specs.Buffers.{written}
 use Rattle.patterns.specs.Answers.{MatchesAt, Listed, spans}
 use Rattle.patterns.specs.Searchable.{Checked}
-use Rattle.patterns.specs.Walk.{walk, unmarked, Decides, afterWalk}
+use Rattle.patterns.specs.Walk.{sameSymbol, walk, unmarked, Decides, afterWalk}
 use Rattle.patterns.specs.declared.Walked.{Walked}
 use Rattle.searches.specs.declared.Next.{Next}
 use Rattle.searches.specs.declared.Next.the-variants.{At, Nowhere}
 use Rattle.searches.specs.declared.Listing.{Listing}
 use Rattle.searches.specs.declared.Listing.the-variants.{All, Needs}
+
+-- where the pattern matches, the subtree has at most `most` symbols
+abbrev pub AtMost : Programme → List ℕ → ℕ → Type 0
+AtMost P q most = (a : Alphabet) → Checked a P q → (p : ℕ) → p < length (P .row) → MatchesAt a (P .row) q p → getD (P .table) p 0 ≤ p + most
+
+-- the symbol s stands at position p of the row w with the ends e, over a subtree of at least `least` symbols and at most `most`
+unfoldable pub mayMatch : List ℕ → List ℕ → ℕ → ℕ → ℕ → ℕ → Bool
+mayMatch w e s least most p = pick (sameSymbol (getD w p 0) s) (pick (ltb (getD e p 0 - p) least) false (leb (getD e p 0 - p) most)) false
 
 -- p is the first match from `from` on
 pub record FirstFrom (a : Alphabet) (w q : List ℕ) (from p : ℕ) : Type 0 where

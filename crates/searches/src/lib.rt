@@ -4,11 +4,11 @@ ghost use mathlib.Core.Path.{_≡_};
 ghost use Prim.Native.Nat.{_+_, _≤_, _<_};
 ghost use lib.ListN.{length};
 ghost use Rattle.rows.specs.Limits.{variables};
-ghost use Rattle.rows.specs.Programme.{Alphabet, programme};
+ghost use Rattle.rows.specs.Programme.{Alphabet, Programme, programme};
 ghost use Rattle.rows.specs.Buffers.{written};
 ghost use Rattle.patterns.specs.Searchable.{Checked, Searchable};
-ghost use Rattle.patterns.specs.Walk.{MarksIn, markBegin, markEnd};
-ghost use Rattle.searches.specs.Searches.{NextIs, Counts, Lists, RoomFor, VariablesAt};
+ghost use Rattle.patterns.specs.Walk.{Ends, MarksIn, markBegin, markEnd};
+ghost use Rattle.searches.specs.Searches.{AtMost, mayMatch, NextIs, Counts, Lists, RoomFor, VariablesAt};
 ghost use Rattle.searches.specs.Spans.{markSpans};
 ghost use Rattle.searches.specs.declared.Listing.the-variants.{All};
 use patterns::Leaf;
@@ -21,10 +21,39 @@ pub enum Next {
     Nowhere,
 }
 
-// The first match at position `from` or after it. A number of the pattern that does not fit sends the search to the next
-// position.
-pub fn next_match(row: &[u16], table: &[u16], pattern: &[u16], from: usize) -> Next
-    requires { ⌜ Searchable (programme (now row) (now table)) (now pattern) × (from ≤ length (now row)) ⌝ }
+// The most symbols that a subtree of a row of n symbols can have where the pattern matches: without blanks the pattern matches
+// its own size alone.
+fn most_symbols(pattern: &[u16], n: usize) -> usize
+    ensures { λ r. ⌜ ((P : Programme) → length (P .row) ≤ n → AtMost P (now (pattern .entry)) r) ⌝ }
+{
+    for k in 0..pattern.len() {
+        let kind = patterns::leaf_of(pattern[k]);
+        let Leaf::Plain = kind else {
+            return n;
+        };
+    }
+    pattern.len()
+}
+
+// Can a pattern match at p? Its root stands there, over a subtree of at least `least` symbols and at most `most`.
+fn may_match(row: &[u16], table: &[u16], root: u16, least: usize, most: usize, p: usize) -> bool
+    requires { ⌜ Ends (now row) (now table) × (p < length (now row)) ⌝ }
+    ensures { λ r. ⌜ r ≡ mayMatch (now (row .entry)) (now (table .entry)) root least most p ⌝ }
+{
+    if patterns::same(row[p], root) {
+        let size = table[p] as usize - p;
+        if size < least {
+            return false;
+        }
+        return size <= most;
+    }
+    false
+}
+
+// The first match at position `from` or after it, where none has more than `most` symbols. A number of the pattern that does
+// not fit sends the search to the next position.
+fn next_match(row: &[u16], table: &[u16], pattern: &[u16], most: usize, from: usize) -> Next
+    requires { ⌜ Searchable (programme (now row) (now table)) (now pattern) × AtMost (programme (now row) (now table)) (now pattern) most × (from ≤ length (now row)) ⌝ }
     ensures { λ r. ⌜ ((a : Alphabet) → Checked a (programme (now (row .entry)) (now (table .entry))) (now (pattern .entry)) → NextIs a (now (row .entry)) (now (pattern .entry)) from r) ⌝ }
 {
     let root = pattern[0];
@@ -37,7 +66,7 @@ pub fn next_match(row: &[u16], table: &[u16], pattern: &[u16], from: usize) -> N
         return Next::Nowhere;
     };
     'positions: for p in from..row.len() {
-        if patterns::same(row[p], root) {
+        if may_match(row, table, root, pattern.len(), most, p) {
             let mut marks = [0u16; patterns::MARKS];
             let mut j = p + 1;
             for k in 1..pattern.len() {
@@ -58,15 +87,25 @@ pub fn next_match(row: &[u16], table: &[u16], pattern: &[u16], from: usize) -> N
     Next::Nowhere
 }
 
+// The first match of all.
+pub fn first_match(row: &[u16], table: &[u16], pattern: &[u16]) -> Next
+    requires { ⌜ Searchable (programme (now row) (now table)) (now pattern) ⌝ }
+    ensures { λ r. ⌜ ((a : Alphabet) → Checked a (programme (now (row .entry)) (now (table .entry))) (now (pattern .entry)) → NextIs a (now (row .entry)) (now (pattern .entry)) 0 r) ⌝ }
+{
+    let most = most_symbols(pattern, row.len());
+    next_match(row, table, pattern, most, 0)
+}
+
 // How many matches there are.
 pub fn count_matches(row: &[u16], table: &[u16], pattern: &[u16]) -> usize
     requires { ⌜ Searchable (programme (now row) (now table)) (now pattern) ⌝ }
     ensures { λ r. ⌜ ((a : Alphabet) → Checked a (programme (now (row .entry)) (now (table .entry))) (now (pattern .entry)) → Counts a (now (row .entry)) (now (pattern .entry)) r) ⌝ }
 {
+    let most = most_symbols(pattern, row.len());
     let mut count = 0;
     let mut from = 0;
     loop {
-        let next = next_match(row, table, pattern, from);
+        let next = next_match(row, table, pattern, most, from);
         let Next::At(p) = next else {
             return count;
         };
@@ -80,10 +119,11 @@ fn write_matches(row: &[u16], table: &[u16], pattern: &[u16], out: &mut [u16]) -
     requires { ⌜ Searchable (programme (now row) (now table)) (now pattern) × RoomFor (programme (now row) (now table)) (now pattern) (length (now out)) ⌝ }
     ensures { λ r. ⌜ ((a : Alphabet) → Checked a (programme (now (row .entry)) (now (table .entry))) (now (pattern .entry)) → Lists a (now (row .entry)) (now (pattern .entry)) (now (out .entry)) (All r) (now (out .exit))) ⌝ }
 {
+    let most = most_symbols(pattern, row.len());
     let mut count = 0;
     let mut from = 0;
     loop {
-        let next = next_match(row, table, pattern, from);
+        let next = next_match(row, table, pattern, most, from);
         let Next::At(p) = next else {
             return count;
         };

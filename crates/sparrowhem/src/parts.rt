@@ -65,10 +65,10 @@ pub fn newer_answer(
     ) {
         Check::Refused(r) => Newest::Refused(r),
         Check::Fine => {
-            if let Next::At(p) = searches::next_match(corrected, corrected_table, pattern, 0) {
+            if let Next::At(p) = searches::first_match(corrected, corrected_table, pattern) {
                 return Newest::Corrected(p, corrected_table[p] as usize);
             }
-            match searches::next_match(record, record_table, pattern, 0) {
+            match searches::first_match(record, record_table, pattern) {
                 Next::At(p) => Newest::OnRecord(p, record_table[p] as usize),
                 Next::Nowhere => Newest::Nowhere,
             }

@@ -14,11 +14,11 @@ use Rattle.searches.proofs.count_matches.Statement.{statement}
 use Rattle.searches.proofs.count_matches.Tie as tie
 
 abbrev Inv-loop : tie.InvT-loop
-Inv-loop row table pattern count₀ from₀ count from =
+Inv-loop row table pattern most count₀ from₀ count from =
     (from ≤ length row) × (count ≤ from) × ((a : Alphabet) → Checked a (programme row table) pattern → Tally a row pattern count from)
 
 abbrev μ-loop : tie.MeasureT-loop
-μ-loop row table pattern count₀ from₀ count from = length row - from
+μ-loop row table pattern most count₀ from₀ count from = length row - from
 
 -- what the function was given
 abbrev Start : Type 0
@@ -35,7 +35,7 @@ abbrev Loop : Type 0
 Loop = tie.At-loop Inv-loop μ-loop
 
 abbrev start : Loop → Start
-start l = l .before .before .before .before
+start l = l .before .before .before .before .before
 
 abbrev Found : Type 0
 Found = tie.After-next Inv-loop μ-loop
@@ -60,13 +60,16 @@ none c a k =
     let l = c .before .before .before in let s = start l in
     subst (NextIs a (s .args .row .now) (sought s) (l .loop .from)) (c .enum-told .given .1) (c .before .before .next-match .ensures a k)
 
+most-symbols-requires : tie.Need-most-symbols-requires Inv-loop μ-loop
+most-symbols-requires c κs = search needs
+
 loop-holds : tie.Need-loop-holds Inv-loop μ-loop
 loop-holds c =
-    let s = c .before .before .before in
+    let s = c .before .before .before .before in
     (omega arith, omega arith, λ a k. tally-start a (s .args .row .now) (sought s))
 
 next-match-requires : tie.Need-next-match-requires Inv-loop μ-loop
-next-match-requires c κs = search needs
+next-match-requires c κs = let s = start c in (s .pre, c .before .most-symbols .ensures (lent s) (omega arith), c .loop .inv .0)
 
 enum-known-next : tie.Need-enum-known-next Inv-loop μ-loop
 enum-known-next c = search needs
@@ -100,6 +103,7 @@ count-matches-spec =
     (tie.spec
     Inv-loop
     μ-loop
+    most-symbols-requires
     loop-holds
     next-match-requires
     enum-known-next

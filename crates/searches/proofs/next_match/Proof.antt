@@ -17,7 +17,7 @@ use native.Mathlib.Omega.{arith}
 use lib.ListN.{length}
 use Rattle.patterns.proofs.Matching.{checked-ends, checked-pattern}
 use Rattle.searches.proofs.Going.{lent-ends, Walking, walking-inside, walking-same, walking-next, walking-miss, walking-end}
-use Rattle.searches.proofs.Searching.{bare-here, past-row, Passed, passed-none, passed-more, next-here, next-none, root-same, root-other}
+use Rattle.searches.proofs.Searching.{bare-here, past-row, Passed, passed-none, passed-more, passed-miss, next-here, next-none, root-same, may-same, may-not}
 use borrow.Author.Needs.{needs}
 use Rattle.searches.proofs.next_match.Statement.{statement}
 use Rattle.searches.proofs.next_match.Tie as tie
@@ -28,17 +28,17 @@ told-apart l z t =
     (λ (q : tagOf the-type l ≡ 2). (let x : _≡_ {A = ℕ} 0 2 = ap (tagOf the-type) (sym z) ∙ q in omega arith)) t
 
 abbrev Inv-loop : tie.InvT-loop
-Inv-loop row table pattern from root p₀ marks₀ j₀ k₀ p-end k-end p marks j k =
+Inv-loop row table pattern most from root p₀ marks₀ j₀ k₀ p-end k-end p marks j k =
     (p ≡ p₀) × (k-end ≡ length pattern) × Walking (programme row table) pattern p₀ marks j k
 
 abbrev μ-loop : tie.MeasureT-loop
-μ-loop row table pattern from root p₀ marks₀ j₀ k₀ p-end k-end p marks j k = length pattern - k
+μ-loop row table pattern most from root p₀ marks₀ j₀ k₀ p-end k-end p marks j k = length pattern - k
 
 abbrev Inv-positions : tie.InvT-positions
-Inv-positions row table pattern from root p₀ p-end p = (p-end ≡ length row) × Passed (programme row table) pattern from p
+Inv-positions row table pattern most from root p₀ p-end p = (p-end ≡ length row) × Passed (programme row table) pattern from p
 
 abbrev μ-positions : tie.MeasureT-positions
-μ-positions row table pattern from root p₀ p-end p = length row - p
+μ-positions row table pattern most from root p₀ p-end p = length row - p
 
 -- what the function was given
 abbrev Start : Type 0
@@ -76,7 +76,7 @@ abbrev Inner : Type 0
 Inner = tie.At-loop Inv-loop μ-loop Inv-positions μ-positions
 
 abbrev outer : Inner → Outer
-outer l = l .before .before .before .before .before
+outer l = l .before .before .before .before
 
 -- a position of the row faces the number at k
 inside : (c : tie.In-loop Inv-loop μ-loop Inv-positions μ-positions) → (let l = c .before in l .loop .j < length (start (outer l) .args .row .now))
@@ -104,24 +104,18 @@ returns-2 c a k = let s = bare-start (c .before) in past-row (lent s) (sought s)
 positions-holds : tie.Need-positions-holds Inv-loop μ-loop Inv-positions μ-positions
 positions-holds c =
     let s = plain-start c in
-    (refl, passed-none (lent s) (sought s) (s .args .from) (s .pre .1))
+    (refl, passed-none (lent s) (sought s) (s .args .from) (s .pre .2))
 
-mul-same : tie.Need-mul-same Inv-loop μ-loop Inv-positions μ-positions
-mul-same c = search needs
-
-shared-slice-read-same : tie.Need-shared-slice-read-same Inv-loop μ-loop Inv-positions μ-positions
-shared-slice-read-same c = search needs
-
-same-requires : tie.Need-same-requires Inv-loop μ-loop Inv-positions μ-positions
-same-requires c κs = search needs
+may-match-requires : tie.Need-may-match-requires Inv-loop μ-loop Inv-positions μ-positions
+may-match-requires c κs = let s = start (c .before) in (checked-ends (s .pre .0 .0) (lent s) (sought s) (s .pre .0 .1), search needs)
 
 add-j : tie.Need-add-j Inv-loop μ-loop Inv-positions μ-positions
 add-j c = search needs
 
 loop-holds : tie.Need-loop-holds Inv-loop μ-loop Inv-positions μ-positions
 loop-holds c =
-    let u = c .before .before .before .before in let s = start u in
-    (refl, refl, root-same (lent s) (sought s) (s .pre .0) _ (search needs) (sym (c .before .same .ensures) ∙ c .if2 .taken))
+    let u = c .before .before .before in let s = start u in
+    (refl, refl, root-same (lent s) (sought s) (s .pre .0) _ (search needs) (may-same (lent s) (sought s) (s .pre .0) _ (search needs) _ _ (sym (c .before .may-match .ensures) ∙ c .if2 .taken)))
 
 mul-s : tie.Need-mul-s Inv-loop μ-loop Inv-positions μ-positions
 mul-s c = search needs
@@ -129,14 +123,14 @@ mul-s c = search needs
 shared-slice-read-s : tie.Need-shared-slice-read-s Inv-loop μ-loop Inv-positions μ-positions
 shared-slice-read-s c = search needs
 
-mul-same-2 : tie.Need-mul-same-2 Inv-loop μ-loop Inv-positions μ-positions
-mul-same-2 c = search needs
+mul-same : tie.Need-mul-same Inv-loop μ-loop Inv-positions μ-positions
+mul-same c = search needs
 
-shared-slice-read-same-2 : tie.Need-shared-slice-read-same-2 Inv-loop μ-loop Inv-positions μ-positions
-shared-slice-read-same-2 c = inside (c .before .before)
+shared-slice-read-same : tie.Need-shared-slice-read-same Inv-loop μ-loop Inv-positions μ-positions
+shared-slice-read-same c = inside (c .before .before)
 
-same-requires-2 : tie.Need-same-requires-2 Inv-loop μ-loop Inv-positions μ-positions
-same-requires-2 c κs = search needs
+same-requires : tie.Need-same-requires Inv-loop μ-loop Inv-positions μ-positions
+same-requires c κs = search needs
 
 add-j-2 : tie.Need-add-j-2 Inv-loop μ-loop Inv-positions μ-positions
 add-j-2 c = search needs
@@ -144,7 +138,7 @@ add-j-2 c = search needs
 step-requires : tie.Need-step-requires Inv-loop μ-loop Inv-positions μ-positions
 step-requires c κs =
     let n = c .before .before .before .before .before in let l = n .before in let s = start (outer l) in
-    (checked-ends (s .pre .0 .0) (lent s) (sought s) (s .pre .0 .1), l .loop .inv .2 .marks, inside n, sym (c .before .before .same2 .ensures) ∙ c .before .if3 .left)
+    (checked-ends (s .pre .0 .0) (lent s) (sought s) (s .pre .0 .1), l .loop .inv .2 .marks, inside n, sym (c .before .before .same .ensures) ∙ c .before .if3 .left)
 
 enum-known-found : tie.Need-enum-known-found Inv-loop μ-loop Inv-positions μ-positions
 enum-known-found c = search needs
@@ -162,7 +156,7 @@ positions-again : tie.Need-positions-again Inv-loop μ-loop Inv-positions μ-pos
 positions-again c =
     let t = c .before .before in let other = t .before .before in let n = other .before .before .before .before in let l = n .before in let u = outer l in let s = start u in let o = u .positions in let i = l .loop in
     let missed = walking-miss (lent s) (sought s) (o .p) (s .pre .0) (i .marks) (i .j) (i .k) (i .inv .2) (n .loop-test .taken) _ _ (t .step .ensures) _ _ (c .enum-told2 .given .1) in
-    (refl, subst (λ n. Passed (lent s) (sought s) (s .args .from) (n + 1)) (sym (i .inv .0)) (passed-more (lent s) (sought s) (s .args .from) (o .p) (o .inv .1) (omega (arith, l .before .before .before .before .positions-test .taken, o .inv .0)) _ _ (missed (s .args .table .now) (lent-ends (lent s)))))
+    (refl, subst (λ n. Passed (lent s) (sought s) (s .args .from) (n + 1)) (sym (i .inv .0)) (passed-miss (lent s) (sought s) (s .args .from) (o .p) (o .inv .1) (omega (arith, l .before .before .before .positions-test .taken, o .inv .0)) _ _ (missed (s .args .table .now) (lent-ends (lent s)))))
 
 add-k : tie.Need-add-k Inv-loop μ-loop Inv-positions μ-positions
 add-k c = search needs
@@ -178,7 +172,7 @@ loop-again c =
       i .inv .0,
       refl,
       ⊎-elim
-          (λ x. subst₂ here (sym (x .1)) (sym (x .2)) (walking-same (lent s) (sought s) p (s .pre .0) (i .marks) (i .j) (i .k) (i .inv .2) (search needs) (sym (c .before .same2 .ensures) ∙ x .0 .taken)))
+          (λ x. subst₂ here (sym (x .1)) (sym (x .2)) (walking-same (lent s) (sought s) p (s .pre .0) (i .marks) (i .j) (i .k) (i .inv .2) (search needs) (sym (c .before .same .ensures) ∙ x .0 .taken)))
           (λ x. subst₂ here (sym (x .6)) (sym (x .7)) (walking-next (lent s) (sought s) p (s .pre .0) (i .marks) (i .j) (i .k) (i .inv .2) (search needs) _ _ (x .2 .ensures) _ (x .4 .given .1)))
           (c .if3 .came),
     )
@@ -197,9 +191,9 @@ positions-less-2 c = search needs
 
 positions-again-2 : tie.Need-positions-again-2 Inv-loop μ-loop Inv-positions μ-positions
 positions-again-2 c =
-    let u = c .before .before .before .before in let s = start u in let o = u .positions in
+    let u = c .before .before .before in let s = start u in let o = u .positions in
     let plain = sym (u .before .before .before .leaf-of .ensures) ∙ u .before .enum-told .given .1 in
-    (refl, passed-more (lent s) (sought s) (s .args .from) (o .p) (o .inv .1) (search needs) _ _ (root-other (lent s) (sought s) (s .pre .0) (o .p) (search needs) (sym (c .before .same .ensures) ∙ c .if2 .left) plain))
+    (refl, passed-more (lent s) (sought s) (s .args .from) (o .p) (o .inv .1) (search needs) (may-not (lent s) (sought s) (s .pre .0) (o .p) (search needs) (s .args .most) (s .pre .1) plain (sym (c .before .may-match .ensures) ∙ c .if2 .left)))
 
 returns-4 : tie.Need-returns-4 Inv-loop μ-loop Inv-positions μ-positions
 returns-4 c =
@@ -220,16 +214,14 @@ next-match-spec =
     returns
     returns-2
     positions-holds
-    mul-same
-    shared-slice-read-same
-    same-requires
+    may-match-requires
     add-j
     loop-holds
     mul-s
     shared-slice-read-s
-    mul-same-2
-    shared-slice-read-same-2
-    same-requires-2
+    mul-same
+    shared-slice-read-same
+    same-requires
     add-j-2
     step-requires
     enum-known-found

@@ -17,12 +17,12 @@ use Rattle.searches.proofs.write_matches.Statement.{statement}
 use Rattle.searches.proofs.write_matches.Tie as tie
 
 abbrev Inv-loop : tie.InvT-loop
-Inv-loop row table pattern out₀ count₀ from₀ out count from =
+Inv-loop row table pattern out₀ most count₀ from₀ out count from =
     (from ≤ length row) × (count ≤ from) × (length out ≡ length out₀)
     × ((a : Alphabet) → Checked a (programme row table) pattern → (t : Tally a row pattern count from) × (out ≡ written out₀ 0 (t .positions)))
 
 abbrev μ-loop : tie.MeasureT-loop
-μ-loop row table pattern out₀ count₀ from₀ out count from = length row - from
+μ-loop row table pattern out₀ most count₀ from₀ out count from = length row - from
 
 -- what the function was given
 abbrev Start : Type 0
@@ -39,7 +39,7 @@ abbrev Loop : Type 0
 Loop = tie.At-loop Inv-loop μ-loop
 
 abbrev start : Loop → Start
-start l = l .before .before .before .before .before
+start l = l .before .before .before .before .before .before
 
 abbrev Found : Type 0
 Found = tie.After-next Inv-loop μ-loop
@@ -71,14 +71,17 @@ fits c =
     let a = s .pre .0 .0 in let k = s .pre .0 .1 in
     omega (arith, i .inv .2, tally-room a (lent s) (sought s) k (i .count) (i .from) (i .inv .3 a k .0) _ (first c a k) (length (s .args .out .now)) (s .pre .1))
 
+most-symbols-requires : tie.Need-most-symbols-requires Inv-loop μ-loop
+most-symbols-requires c κs = search needs
+
 loop-holds : tie.Need-loop-holds Inv-loop μ-loop
 unfolding tally-start
 loop-holds c =
-    let s = c .before .before .before .before in
+    let s = c .before .before .before .before .before in
     (omega arith, omega arith, refl, λ a k. (tally-start a (s .args .row .now) (sought s), sym (written-nil (s .args .out .now) 0)))
 
 next-match-requires : tie.Need-next-match-requires Inv-loop μ-loop
-next-match-requires c κs = search needs
+next-match-requires c κs = let s = start c in (s .pre .0, c .before .most-symbols .ensures (lent s) (omega arith), c .loop .inv .0)
 
 enum-known-next : tie.Need-enum-known-next Inv-loop μ-loop
 enum-known-next c = search needs
@@ -135,6 +138,7 @@ write-matches-spec =
     (tie.spec
     Inv-loop
     μ-loop
+    most-symbols-requires
     loop-holds
     next-match-requires
     enum-known-next

@@ -42,17 +42,17 @@ both : (c : tie.After-enum-told) → (let s = c .before .before in Checked (a s)
 both c = let s = c .before .before in newer-checked (a s) (P s) (O s) (q s) (fine c)
 
 -- what the search of each row says of an answer that is known
-in-corrected : (c : tie.After-next-match) (r : Next) → c .next-match .result ≡ r → (let s = c .before .before .before in NextIs (a s) (P s .row) (q s) 0 r)
+in-corrected : (c : tie.After-first-match) (r : Next) → c .first-match .result ≡ r → (let s = c .before .before .before in NextIs (a s) (P s .row) (q s) 0 r)
 in-corrected c r e =
     let s = c .before .before .before in
-    subst (NextIs (a s) (P s .row) (q s) 0) e (c .next-match .ensures (a s) (both (c .before) .0))
+    subst (NextIs (a s) (P s .row) (q s) 0) e (c .first-match .ensures (a s) (both (c .before) .0))
 
-in-record : (c : tie.After-next-match2) (r : Next) → c .next-match2 .result ≡ r
+in-record : (c : tie.After-first-match2) (r : Next) → c .first-match2 .result ≡ r
     → (let s = c .before .before .before .before .before .before in NextIs (a s) (O s .row) (q s) 0 r)
 in-record c r e =
     let n = c .before .before .before in
     let s = n .before .before .before in
-    subst (NextIs (a s) (O s .row) (q s) 0) e (c .next-match2 .ensures (a s) (both (n .before) .1))
+    subst (NextIs (a s) (O s .row) (q s) 0) e (c .first-match2 .ensures (a s) (both (n .before) .1))
 
 check-newer-requires : tie.Need-check-newer-requires
 check-newer-requires c κs = search needs
@@ -63,8 +63,8 @@ enum-known-r c = search needs
 enum-told : tie.Need-enum-told
 enum-told c = search needs
 
-next-match-requires : tie.Need-next-match-requires
-next-match-requires c κs = ((_, both c .0), omega arith)
+first-match-requires : tie.Need-first-match-requires
+first-match-requires c κs = (_, both c .0)
 
 enum-known-p : tie.Need-enum-known-p
 enum-known-p c = search needs
@@ -90,8 +90,8 @@ returns c =
 enum-told-2 : tie.Need-enum-told-2
 enum-told-2 c = search needs
 
-next-match-requires-2 : tie.Need-next-match-requires-2
-next-match-requires-2 c κs = ((_, both (c .before .before .before) .1), omega arith)
+first-match-requires-2 : tie.Need-first-match-requires-2
+first-match-requires-2 c κs = (_, both (c .before .before .before) .1)
 
 enum-known-p-2 : tie.Need-enum-known-p-2
 enum-known-p-2 c = search needs
@@ -136,14 +136,14 @@ newer-answer-spec =
     check-newer-requires
     enum-known-r
     enum-told
-    next-match-requires
+    first-match-requires
     enum-known-p
     mul-t13
     shared-slice-read-t15
     cast-t16
     returns
     enum-told-2
-    next-match-requires-2
+    first-match-requires-2
     enum-known-p-2
     mul-t19
     shared-slice-read-t21
