@@ -54,10 +54,10 @@ tally-start a w q = record { positions = []; listed = listed-none a w q; many = 
 
 module _ (a : Alphabet) (w q : List ℕ) (count from : ℕ) (t : Tally a w q count from) where
   -- the next match is listed
-  pub listed-next : (p : ℕ) → FirstFrom a w q from p → Listed a w q (p + 1) (t .positions ++ (p ∷ []))
+  pub listed-next : (p : ℕ) → FirstFrom a w q from (length w) p → Listed a w q (p + 1) (t .positions ++ (p ∷ []))
   listed-next p n = listed-here a w q p (t .positions) (listed-skip a w q from p (t .positions) (t .listed) (n .on) (n .none-between)) (n .here)
 
-  unfoldable pub tally-more : (p : ℕ) → FirstFrom a w q from p → Tally a w q (count + 1) (p + 1)
+  unfoldable pub tally-more : (p : ℕ) → FirstFrom a w q from (length w) p → Tally a w q (count + 1) (p + 1)
   tally-more p n =
       record {
         positions = t .positions ++ (p ∷ []);
@@ -66,15 +66,15 @@ module _ (a : Alphabet) (w q : List ℕ) (count from : ℕ) (t : Tally a w q cou
       }
 
   -- there is none: all are listed
-  pub tally-end : from ≤ length w → NoneFrom a w q from → Listed a w q (length w) (t .positions)
+  pub tally-end : from ≤ length w → NoneFrom a w q from (length w) → Listed a w q (length w) (t .positions)
   tally-end h n = listed-skip a w q from (length w) (t .positions) (t .listed) h n
 
-  pub tally-counts : from ≤ length w → NoneFrom a w q from → Counts a w q count
+  pub tally-counts : from ≤ length w → NoneFrom a w q from (length w) → Counts a w q count
   tally-counts h n = record { positions = t .positions; listed = tally-end h n; many = t .many }
 
 -- where all matches have room, so has the next one
 pub tally-room : (a : Alphabet) (P : Programme) (q : List ℕ) → Checked a P q → (count from : ℕ) → Tally a (P .row) q count from
-    → (p : ℕ) → FirstFrom a (P .row) q from p → (n : ℕ) → RoomFor P q n → count < n
+    → (p : ℕ) → FirstFrom a (P .row) q from (length (P .row)) p → (n : ℕ) → RoomFor P q n → count < n
 tally-room a P q c count from t p f n room =
     let all = listing a P q c (length (P .row)) (omega arith) in
     omega (

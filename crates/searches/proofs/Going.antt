@@ -34,7 +34,7 @@ use Rattle.patterns.specs.declared.Stepped.the-variants.{To, Miss}
 use Rattle.patterns.proofs.Leaves.{Kind, kind}
 use Rattle.patterns.proofs.Marks.{picks, marks-none, marks-wider, marks-set}
 use Rattle.patterns.proofs.Matching.{checked-ends, checked-pattern}
-use Rattle.patterns.proofs.Steps.{steps-same, steps-end}
+use Rattle.patterns.proofs.Steps.{steps-same, steps-blank, steps-end}
 
 -- behind the end of a subtree one tree fewer stands ahead
 fewer : (A w e : List ℕ) → Right A w e → (j : ℕ) → j < length w → count (behind A w (getD e j 0)) + 1 ≡ count (behind A w j)
@@ -182,6 +182,14 @@ module _ (P : Programme) (q : List ℕ) (p : ℕ) where
             ahead = λ a c. g a c .2;
           }
 
+      -- S always fits
+      walking-fits : leaf (getD q k 0) ≡ Blank → (n : ℕ) × Walking P q p ms n (k + 1)
+      walking-fits z = go (sameSymbol (getD (P .row) j 0) (getD q k 0)) refl
+        where
+          go : (b : Bool) → sameSymbol (getD (P .row) j 0) (getD q k 0) ≡ b → (n : ℕ) × Walking P q p ms n (k + 1)
+          go true y = (j + 1, walking-to (j + 1) ms (steps-same (P .row) (P .table) k (getD q k 0) j ms y))
+          go false y = (getD (P .table) j 0, walking-to (getD (P .table) j 0) ms (steps-blank (P .row) (P .table) k (getD q k 0) j ms y z))
+
       pub walking-stops : (x y : ℕ) → here ≡ misses x y → (e : List ℕ) → SameEnds P e → walk (P .row) e 0 q p unmarked ≡ misses x y
       walking-stops x y z = walk-on (misses x y) z
 
@@ -204,3 +212,17 @@ module _ (P : Programme) (q : List ℕ) (p : ℕ) where
             go : (o : Outcome) → here ≡ o → stepped o ≡ Miss x y → (e : List ℕ) → SameEnds P e → walk (P .row) e 0 q p unmarked ≡ misses x y
             go (misses x′ y′) t z = let there : x′ ≡ x = cc in let same : y′ ≡ y = cc in walking-stops x y (t ∙ ap₂ misses there same)
             go (reaches n ms″) t z = let x : _≡_ {A = ℕ} 0 1 = cc in absurd (omega arith)
+
+-- the walk comes through where only S are left
+pub walking-through : (P : Programme) (q : List ℕ) (p : ℕ) → Searchable P q → (n : ℕ) (ms : List ℕ) (j k : ℕ) → Walking P q p ms j k → length q ≤ k + n
+    → ((i : ℕ) → k ≤ i → i < length q → leaf (getD q i 0) ≡ Blank) → (j′ : ℕ) × (walk (P .row) (P .table) 0 q p unmarked ≡ reaches j′ ms)
+walking-through P q p s zero ms j k h l b = (j, walking-end P q p s ms j k h (omega arith))
+walking-through P q p s (suc n) ms j k h l b =
+    go (decLt k (length q)) (λ x t. walking-through P q p s n ms x (k + 1) t (omega arith) (λ i y z. b i (omega arith) z))
+  where
+    Ends-well : Type 0
+    Ends-well = (j′ : ℕ) × (walk (P .row) (P .table) 0 q p unmarked ≡ reaches j′ ms)
+
+    go : Dec (k < length q) → ((x : ℕ) → Walking P q p ms x (k + 1) → Ends-well) → Ends-well
+    go (no m) on = (j, walking-end P q p s ms j k h (omega arith))
+    go (yes m) on = let t = walking-fits P q p s ms j k h m (b k (omega arith) m) in on (t .0) (t .1)

@@ -5,10 +5,11 @@ use mathlib.Core.Path.{_≡_, refl, sym, ap, _∙_, subst}
 use mathlib.Core.List.{List}
 use mathlib.Core.Bool.{Bool, true, false}
 use native.Mathlib.Omega.{arith}
-use native.Mathlib.Decide.{ℕ-discrete}
-use borrow.Author.Tests.{ltb-true, leb-false}
+use native.Mathlib.Decide.{ℕ-discrete, decLt}
+use borrow.Author.Tests.{ne-eqb, ltb-true, leb-false}
 use lib.Dec.{ltb, leb}
-use lib.ListN.{getD, length}
+use lib.ListN.{getD, length, take, drop, length-take, length-drop}
+use lib.Seq.{getD-take, getD-drop}
 use Rattle.rows.specs.Programme.{Alphabet, Programme}
 use Rattle.rows.specs.Tree.{Forest, Forest.none, Tree, single, prefix, subtreeAt}
 use Rattle.rows.specs.Parse.{parse, treeOf}
@@ -22,7 +23,7 @@ use Rattle.patterns.specs.declared.Leaf.the-variants.{Plain, Blank, Variable}
 use Rattle.patterns.proofs.Matching.{PatternOf, checked-ends, checked-pattern, walk-matches, missed}
 use Rattle.patterns.proofs.Sizes.{size-at-least, size-exactly}
 use Rattle.patterns.proofs.Steps.{steps-same, steps-plain}
-use Rattle.searches.specs.Searches.{AtMost, mayMatch, FirstFrom, NoneFrom}
+use Rattle.searches.specs.Searches.{BlankFrom, AtMost, Without, mayMatch, FirstFrom, NoneFrom}
 use Rattle.searches.proofs.Going.{lent-ends, Walking, walking-start, walking-to, walking-stops}
 
 -- S or a variable alone matches everywhere
@@ -44,7 +45,7 @@ bare-matches a w q Q n p =
 
 module _ (P : Programme) (q : List ℕ) (from : ℕ) where
   -- a bare pattern matches at once, if there is a position left
-  pub bare-here : from < length (P .row) → (leaf (getD q 0 0) ≡ Plain → ⊥) → (a : Alphabet) → Checked a P q → FirstFrom a (P .row) q from from
+  pub bare-here : from < length (P .row) → (leaf (getD q 0 0) ≡ Plain → ⊥) → (a : Alphabet) → Checked a P q → FirstFrom a (P .row) q from (length (P .row)) from
   bare-here h n a c =
       record {
         on = omega arith;
@@ -53,7 +54,7 @@ module _ (P : Programme) (q : List ℕ) (from : ℕ) where
         none-between = λ x l u m. omega arith;
       }
 
-  pub past-row : length (P .row) ≤ from → (a : Alphabet) → NoneFrom a (P .row) q from
+  pub past-row : length (P .row) ≤ from → (a : Alphabet) → NoneFrom a (P .row) q from (length (P .row))
   past-row h a x l u m = omega arith
 
   -- from `from` up to p there is no match
@@ -81,14 +82,46 @@ module _ (P : Programme) (q : List ℕ) (from : ℕ) where
       passed-miss k y z = passed-more (λ a c. missed a P q c p inside k y z)
 
       -- one where it comes through
-      pub next-here : (j : ℕ) (ms : List ℕ) → walk (P .row) (P .table) 0 q p unmarked ≡ reaches j ms → (a : Alphabet) → Checked a P q → FirstFrom a (P .row) q from p
-      next-here j ms z a c =
-          record { on = h .on; within = inside; here = walk-matches a P q c p inside j ms z; none-between = h .none a c }
+      pub next-here : (to : ℕ) → p < to → (j : ℕ) (ms : List ℕ) → walk (P .row) (P .table) 0 q p unmarked ≡ reaches j ms
+          → (a : Alphabet) → Checked a P q → FirstFrom a (P .row) q from to p
+      next-here to l j ms z a c =
+          record { on = h .on; within = l; here = walk-matches a P q c p inside j ms z; none-between = h .none a c }
 
-    pub next-none : length (P .row) ≤ p → (a : Alphabet) → Checked a P q → NoneFrom a (P .row) q from
-    next-none l a c x f u m = h .none a c x f (omega arith) m
+    pub next-none : (to : ℕ) → to ≤ p → (a : Alphabet) → Checked a P q → NoneFrom a (P .row) q from to
+    next-none to l a c x f u m = h .none a c x f (omega arith) m
 
--- HOW LARGE A MATCH CAN BE
+    -- none up to `to` either
+    pub passed-to : (to : ℕ) → p ≤ to → to ≤ length (P .row) → ((a : Alphabet) → Checked a P q → NoneFrom a (P .row) q p to) → Passed to
+    passed-to to l u n =
+        record { on = omega (arith, h .on); within = u; none = λ a c x f b m. go a c x f b m (decLt x p) }
+      where
+        go : (a : Alphabet) → Checked a P q → (x : ℕ) → from ≤ x → x < to → MatchesAt a (P .row) q x → Dec (x < p) → ⊥
+        go a c x f b m (yes d) = h .none a c x f d m
+        go a c x f b m (no d) = n a c x (omega arith) b m
+
+    -- the first from p on is the first of all
+    pub first-later : (to : ℕ) → to ≤ length (P .row) → (a : Alphabet) → Checked a P q → (n : ℕ) → FirstFrom a (P .row) q p to n → FirstFrom a (P .row) q from (length (P .row)) n
+    first-later to u a c n f =
+        record {
+          on = omega (arith, h .on, f .on);
+          within = omega (arith, f .within);
+          here = f .here;
+          none-between = λ x l b m. go x l b m (decLt x p);
+        }
+      where
+        go : (x : ℕ) → from ≤ x → x < n → MatchesAt a (P .row) q x → Dec (x < p) → ⊥
+        go x l b m (yes d) = h .none a c x l d m
+        go x l b m (no d) = f .none-between x (omega arith) b m
+
+-- THE OUTLINE OF A PATTERN
+-- one more S at the end
+pub blank-more : (q : List ℕ) (m : ℕ) → 0 < m → BlankFrom q m → leaf (getD q (m - 1) 0) ≡ Blank → BlankFrom q (m - 1)
+blank-more q m some h z = record { within = omega (arith, h .within); blank = λ i l u. go i l u (ℕ-discrete i (m - 1)) }
+  where
+    go : (i : ℕ) → m - 1 ≤ i → i < length q → Dec (i ≡ m - 1) → leaf (getD q i 0) ≡ Blank
+    go i l u (yes d) = ap (λ (n : ℕ). leaf (getD q n 0)) d ∙ z
+    go i l u (no d) = h .blank i (omega arith) u
+
 -- the first k numbers of the pattern are no blanks
 abbrev pub PlainTo : List ℕ → ℕ → Type 0
 PlainTo q k = (i : ℕ) → i < k → leaf (getD q i 0) ≡ Plain
@@ -146,3 +179,28 @@ module _ (P : Programme) (q : List ℕ) (s : Searchable P q) (p : ℕ) (inside :
       go true true v r s t z = let l : symbols < length q = ltb-true symbols (length q) s in omega (arith, size-at-least a P q c p inside m)
       go true false true r s t z = let n : _≡_ {A = ℕ} 0 1 = cc in omega arith
       go true false false r s t z = let l : most < symbols = leb-false symbols most t in omega (arith, b a c p inside m)
+
+-- THE ROOT, A STRETCH AT A TIME
+-- one position more where the symbol does not stand
+pub without-more : (w : List ℕ) (s k : ℕ) → Without w s 0 k → (getD w k 0 ≡ s → ⊥) → Without w s 0 (k + 1)
+without-more w s k h n x l u y = go (ℕ-discrete x k)
+  where
+    go : Dec (x ≡ k) → ⊥
+    go (yes d) = n (ap (λ (i : ℕ). getD w i 0) (sym d) ∙ y)
+    go (no d) = h x l (omega arith) y
+
+-- a part of the row in which it does not stand
+pub without-part : (w : List ℕ) (s from p n : ℕ) → p + n ≤ length w → Without w s from p → Without (take n (drop p w)) s 0 (length (take n (drop p w))) → Without w s from (p + n)
+without-part w s from p n long h part x l u y = go (decLt x p)
+  where
+    go : Dec (x < p) → ⊥
+    go (yes d) = h x l d y
+    go (no d) =
+        part (x - p) (omega arith) (omega (arith, length-take n (drop p w), length-drop p w))
+        (getD-take n (drop p w) (x - p) 0 (omega arith) ∙ getD-drop p w (x - p) 0 ∙ ap (λ (i : ℕ). getD w i 0) (omega arith) ∙ y)
+
+-- where the root does not stand, there is no match
+pub none-without : (P : Programme) (q : List ℕ) (s : Searchable P q) → leaf (getD q 0 0) ≡ Plain → (b e : ℕ) → e ≤ length (P .row) → Without (P .row) (getD q 0 0) b e
+    → (a : Alphabet) → Checked a P q → NoneFrom a (P .row) q b e
+none-without P q s k b e u n a c x l h m =
+    missed a P q c x (omega arith) 0 x (root-other P q s x (omega arith) (ne-eqb (getD (P .row) x 0) (getD q 0 0) (n x l h)) k) m

@@ -11,37 +11,60 @@ use Rattle.rows.specs.Parse.{table}
 use Rattle.rows.specs.Row.{pick}
 use Rattle.rows.specs.Buffers.{written}
 use Rattle.patterns.specs.Answers.{MatchesAt, Listed, spans}
-use Rattle.patterns.specs.Searchable.{Checked}
+use Rattle.patterns.specs.Pattern.{leaf}
+use Rattle.patterns.specs.Searchable.{Checked, Searchable}
 use Rattle.patterns.specs.Walk.{sameSymbol, walk, unmarked, Decides, afterWalk}
+use Rattle.patterns.specs.declared.Leaf.the-variants.{Plain, Blank}
 use Rattle.patterns.specs.declared.Walked.{Walked}
+use Rattle.searches.specs.declared.Outline.{Outline}
 use Rattle.searches.specs.declared.Next.{Next}
 use Rattle.searches.specs.declared.Next.the-variants.{At, Nowhere}
 use Rattle.searches.specs.declared.Listing.{Listing}
 use Rattle.searches.specs.declared.Listing.the-variants.{All, Needs}
 
+-- from place m on every number of the pattern is S
+pub record BlankFrom (q : List ℕ) (m : ℕ) : Type 0 where
+  pub within : m ≤ length q
+  pub blank : (i : ℕ) → m ≤ i → i < length q → leaf (getD q i 0) ≡ Blank
+
 -- where the pattern matches, the subtree has at most `most` symbols
 abbrev pub AtMost : Programme → List ℕ → ℕ → Type 0
 AtMost P q most = (a : Alphabet) → Checked a P q → (p : ℕ) → p < length (P .row) → MatchesAt a (P .row) q p → getD (P .table) p 0 ≤ p + most
+
+-- what is known of the pattern is true
+pub record Outlined (P : Programme) (q : List ℕ) (o : Outline) : Type 0 where
+  pub compared : BlankFrom q (o .compared)
+  pub most : AtMost P q (o .most)
+
+-- it can be searched for, and its root is a symbol
+pub record Seekable (P : Programme) (q : List ℕ) (o : Outline) : Type 0 where
+  pub searchable : Searchable P q
+  pub outlined : Outlined P q o
+  pub symbol : leaf (getD q 0 0) ≡ Plain
+
+-- the symbol s does not stand in the row w from position b up to e
+abbrev pub Without : List ℕ → ℕ → ℕ → ℕ → Type 0
+Without w s b e = (k : ℕ) → b ≤ k → k < e → getD w k 0 ≡ s → ⊥
 
 -- the symbol s stands at position p of the row w with the ends e, over a subtree of at least `least` symbols and at most `most`
 unfoldable pub mayMatch : List ℕ → List ℕ → ℕ → ℕ → ℕ → ℕ → Bool
 mayMatch w e s least most p = pick (sameSymbol (getD w p 0) s) (pick (ltb (getD e p 0 - p) least) false (leb (getD e p 0 - p) most)) false
 
--- p is the first match from `from` on
-pub record FirstFrom (a : Alphabet) (w q : List ℕ) (from p : ℕ) : Type 0 where
+-- p is the first match from `from` on, and lies before `to`
+pub record FirstFrom (a : Alphabet) (w q : List ℕ) (from to p : ℕ) : Type 0 where
   pub on : from ≤ p
-  pub within : p < length w
+  pub within : p < to
   pub here : MatchesAt a w q p
   pub none-between : (x : ℕ) → from ≤ x → x < p → MatchesAt a w q x → ⊥
 
--- there is none from `from` on
-abbrev pub NoneFrom : Alphabet → List ℕ → List ℕ → ℕ → Type 0
-NoneFrom a w q from = (x : ℕ) → from ≤ x → x < length w → MatchesAt a w q x → ⊥
+-- there is none from `from` on before `to`
+abbrev pub NoneFrom : Alphabet → List ℕ → List ℕ → ℕ → ℕ → Type 0
+NoneFrom a w q from to = (x : ℕ) → from ≤ x → x < to → MatchesAt a w q x → ⊥
 
--- what the search for the next match answers
-abbrev pub NextIs : Alphabet → List ℕ → List ℕ → ℕ → Next → Type 0
-NextIs a w q from (At p) = FirstFrom a w q from p
-NextIs a w q from Nowhere = NoneFrom a w q from
+-- what the search for the next match before `to` answers
+abbrev pub NextIs : Alphabet → List ℕ → List ℕ → ℕ → ℕ → Next → Type 0
+NextIs a w q from to (At p) = FirstFrom a w q from to p
+NextIs a w q from to Nowhere = NoneFrom a w q from to
 
 -- `r` is the number of all matches
 pub record Counts (a : Alphabet) (w q : List ℕ) (r : ℕ) : Type 0 where

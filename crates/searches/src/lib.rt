@@ -1,14 +1,15 @@
 // The searches: the matches of a pattern in a row with its table, and the variables at one match. Each walks along the
 // pattern, a step at a time, from a position of the row.
 ghost use mathlib.Core.Path.{_≡_};
+ghost use mathlib.Core.Bool.{false};
 ghost use Prim.Native.Nat.{_+_, _≤_, _<_};
 ghost use lib.ListN.{length};
-ghost use Rattle.rows.specs.Limits.{variables};
+ghost use Rattle.rows.specs.Limits.{variables, rowMost};
 ghost use Rattle.rows.specs.Programme.{Alphabet, Programme, programme};
 ghost use Rattle.rows.specs.Buffers.{written};
 ghost use Rattle.patterns.specs.Searchable.{Checked, Searchable};
 ghost use Rattle.patterns.specs.Walk.{Ends, MarksIn, markBegin, markEnd};
-ghost use Rattle.searches.specs.Searches.{AtMost, mayMatch, NextIs, Counts, Lists, RoomFor, VariablesAt};
+ghost use Rattle.searches.specs.Searches.{BlankFrom, AtMost, Outlined, Seekable, mayMatch, Without, NextIs, Counts, Lists, RoomFor, VariablesAt};
 ghost use Rattle.searches.specs.Spans.{markSpans};
 ghost use Rattle.searches.specs.declared.Listing.the-variants.{All};
 use patterns::Leaf;
@@ -19,6 +20,27 @@ use patterns::Walked;
 pub enum Next {
     At(usize),
     Nowhere,
+}
+
+// What is known of a pattern before its search: how many of its numbers are compared, since S at its end always fits; and the
+// most symbols that a match can have.
+struct Outline {
+    compared: usize,
+    most: usize,
+}
+
+// How many numbers of the pattern stand before the S at its end.
+fn count_compared(pattern: &[u16]) -> usize
+    ensures { λ r. ⌜ BlankFrom (now (pattern .entry)) r ⌝ }
+{
+    let mut m = pattern.len();
+    while 0 < m {
+        if pattern[m - 1] != rows::BLANK {
+            return m;
+        }
+        m -= 1;
+    }
+    m
 }
 
 // The most symbols that a subtree of a row of n symbols can have where the pattern matches: without blanks the pattern matches
@@ -33,6 +55,15 @@ fn most_symbols(pattern: &[u16], n: usize) -> usize
         };
     }
     pattern.len()
+}
+
+// The outline of a pattern that is sought in a row of n symbols.
+fn outline_of(pattern: &[u16], n: usize) -> Outline
+    ensures { λ r. ⌜ ((P : Programme) → length (P .row) ≤ n → Outlined P (now (pattern .entry)) r) ⌝ }
+{
+    let compared = count_compared(pattern);
+    let most = most_symbols(pattern, n);
+    Outline { compared, most }
 }
 
 // Can a pattern match at p? Its root stands there, over a subtree of at least `least` symbols and at most `most`.
@@ -50,26 +81,25 @@ fn may_match(row: &[u16], table: &[u16], root: u16, least: usize, most: usize, p
     false
 }
 
-// The first match at position `from` or after it, where none has more than `most` symbols. A number of the pattern that does
-// not fit sends the search to the next position.
-fn next_match(row: &[u16], table: &[u16], pattern: &[u16], most: usize, from: usize) -> Next
-    requires { ⌜ Searchable (programme (now row) (now table)) (now pattern) × AtMost (programme (now row) (now table)) (now pattern) most × (from ≤ length (now row)) ⌝ }
-    ensures { λ r. ⌜ ((a : Alphabet) → Checked a (programme (now (row .entry)) (now (table .entry))) (now (pattern .entry)) → NextIs a (now (row .entry)) (now (pattern .entry)) from r) ⌝ }
+// The first match at position `from` or after it, before `to`, of a pattern whose root is a symbol. A number of the pattern
+// that does not fit sends the search to the next position.
+fn match_within(
+    row: &[u16],
+    table: &[u16],
+    pattern: &[u16],
+    outline: Outline,
+    from: usize,
+    to: usize,
+) -> Next
+    requires { ⌜ Seekable (programme (now row) (now table)) (now pattern) outline × (from ≤ to) × (to ≤ length (now row)) ⌝ }
+    ensures { λ r. ⌜ ((a : Alphabet) → Checked a (programme (now (row .entry)) (now (table .entry))) (now (pattern .entry)) → NextIs a (now (row .entry)) (now (pattern .entry)) from to r) ⌝ }
 {
     let root = pattern[0];
-    // S or a variable alone matches everywhere.
-    let kind = patterns::leaf_of(root);
-    let Leaf::Plain = kind else {
-        if from < row.len() {
-            return Next::At(from);
-        }
-        return Next::Nowhere;
-    };
-    'positions: for p in from..row.len() {
-        if may_match(row, table, root, pattern.len(), most, p) {
+    'positions: for p in from..to {
+        if may_match(row, table, root, pattern.len(), outline.most, p) {
             let mut marks = [0u16; patterns::MARKS];
             let mut j = p + 1;
-            for k in 1..pattern.len() {
+            for k in 1..outline.compared {
                 let s = pattern[k];
                 if patterns::same(row[j], s) {
                     j += 1;
@@ -87,13 +117,72 @@ fn next_match(row: &[u16], table: &[u16], pattern: &[u16], most: usize, from: us
     Next::Nowhere
 }
 
+// Does the symbol stand in the part? It is looked at without a way out of it, which the compiler turns into vector
+// instructions.
+fn stands_in(part: &[u16], s: u16) -> bool
+    ensures { λ r. ⌜ (r ≡ false → Without (now (part .entry)) s 0 (length (now (part .entry)))) ⌝ }
+{
+    let mut hits: u16 = 0;
+    for k in 0..part.len() {
+        if part[k] == s {
+            hits = 1;
+        }
+    }
+    hits == 1
+}
+
+// The positions that a search takes at once.
+const STRETCH: usize = 64;
+
+// How far the symbol does not stand in the row, from `from` on: whole stretches are passed over.
+fn pass_over(row: &[u16], s: u16, from: usize) -> usize
+    requires { ⌜ (from ≤ length (now row)) × (length (now row) ≤ rowMost) ⌝ }
+    ensures { λ r. ⌜ (from ≤ r) × (r ≤ length (now (row .entry))) × Without (now (row .entry)) s from r ⌝ }
+{
+    let mut p = from;
+    while p + STRETCH <= row.len() {
+        if stands_in(&row[p..p + STRETCH], s) {
+            return p;
+        }
+        p += STRETCH;
+    }
+    p
+}
+
+// The first match at position `from` or after it. One is looked for close by first; behind that, only in stretches in which the
+// pattern's root stands.
+fn next_match(row: &[u16], table: &[u16], pattern: &[u16], outline: Outline, from: usize) -> Next
+    requires { ⌜ Searchable (programme (now row) (now table)) (now pattern) × Outlined (programme (now row) (now table)) (now pattern) outline × (from ≤ length (now row)) ⌝ }
+    ensures { λ r. ⌜ ((a : Alphabet) → Checked a (programme (now (row .entry)) (now (table .entry))) (now (pattern .entry)) → NextIs a (now (row .entry)) (now (pattern .entry)) from (length (now (row .entry))) r) ⌝ }
+{
+    let root = pattern[0];
+    // S or a variable alone matches everywhere.
+    let kind = patterns::leaf_of(root);
+    let Leaf::Plain = kind else {
+        if from < row.len() {
+            return Next::At(from);
+        }
+        return Next::Nowhere;
+    };
+    let mut p = from;
+    while p < row.len() {
+        let to = rows::shorter(p + STRETCH, row.len());
+        let next = match_within(row, table, pattern, outline, p, to);
+        if let Next::At(q) = next {
+            return Next::At(q);
+        }
+        p = pass_over(row, root, to);
+    }
+    Next::Nowhere
+}
+
 // The first match of all.
 pub fn first_match(row: &[u16], table: &[u16], pattern: &[u16]) -> Next
     requires { ⌜ Searchable (programme (now row) (now table)) (now pattern) ⌝ }
-    ensures { λ r. ⌜ ((a : Alphabet) → Checked a (programme (now (row .entry)) (now (table .entry))) (now (pattern .entry)) → NextIs a (now (row .entry)) (now (pattern .entry)) 0 r) ⌝ }
+    ensures { λ r. ⌜ ((a : Alphabet) → Checked a (programme (now (row .entry)) (now (table .entry))) (now (pattern .entry)) → NextIs a (now (row .entry)) (now (pattern .entry)) 0 (length (now (row .entry))) r) ⌝ }
 {
-    let most = most_symbols(pattern, row.len());
-    next_match(row, table, pattern, most, 0)
+    let outline = outline_of(pattern, row.len());
+    next_match(row, table, pattern, outline, 0)
 }
 
 // How many matches there are.
@@ -101,11 +190,11 @@ pub fn count_matches(row: &[u16], table: &[u16], pattern: &[u16]) -> usize
     requires { ⌜ Searchable (programme (now row) (now table)) (now pattern) ⌝ }
     ensures { λ r. ⌜ ((a : Alphabet) → Checked a (programme (now (row .entry)) (now (table .entry))) (now (pattern .entry)) → Counts a (now (row .entry)) (now (pattern .entry)) r) ⌝ }
 {
-    let most = most_symbols(pattern, row.len());
+    let outline = outline_of(pattern, row.len());
     let mut count = 0;
     let mut from = 0;
     loop {
-        let next = next_match(row, table, pattern, most, from);
+        let next = next_match(row, table, pattern, outline, from);
         let Next::At(p) = next else {
             return count;
         };
@@ -119,11 +208,11 @@ fn write_matches(row: &[u16], table: &[u16], pattern: &[u16], out: &mut [u16]) -
     requires { ⌜ Searchable (programme (now row) (now table)) (now pattern) × RoomFor (programme (now row) (now table)) (now pattern) (length (now out)) ⌝ }
     ensures { λ r. ⌜ ((a : Alphabet) → Checked a (programme (now (row .entry)) (now (table .entry))) (now (pattern .entry)) → Lists a (now (row .entry)) (now (pattern .entry)) (now (out .entry)) (All r) (now (out .exit))) ⌝ }
 {
-    let most = most_symbols(pattern, row.len());
+    let outline = outline_of(pattern, row.len());
     let mut count = 0;
     let mut from = 0;
     loop {
-        let next = next_match(row, table, pattern, most, from);
+        let next = next_match(row, table, pattern, outline, from);
         let Next::At(p) = next else {
             return count;
         };

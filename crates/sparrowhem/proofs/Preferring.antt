@@ -21,7 +21,7 @@ use Rattle.rows.proofs.Passing.{clash}
 
 -- the search of a row from its start
 module _ (a : Alphabet) (P : Programme) (q : List ℕ) where
-  pub first-match : Checked a P q → (p : ℕ) → FirstFrom a (P .row) q 0 p → FirstMatch a (P .row) q p (getD (P .table) p 0)
+  pub first-match : Checked a P q → (p : ℕ) → FirstFrom a (P .row) q 0 (length (P .row)) p → FirstMatch a (P .row) q p (getD (P .table) p 0)
   first-match c p n =
       record {
         within = n .within;
@@ -30,7 +30,7 @@ module _ (a : Alphabet) (P : Programme) (q : List ℕ) where
         end = right-entry (a .arities) (P .row) (P .table) (c .row) p (n .within);
       }
 
-  pub no-match : NoneFrom a (P .row) q 0 → NoMatch a (P .row) q
+  pub no-match : NoneFrom a (P .row) q 0 (length (P .row)) → NoMatch a (P .row) q
   no-match n k b = n k (omega arith) b
 
 -- where a first match lies, and its subtree's row

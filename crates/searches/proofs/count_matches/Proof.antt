@@ -14,11 +14,11 @@ use Rattle.searches.proofs.count_matches.Statement.{statement}
 use Rattle.searches.proofs.count_matches.Tie as tie
 
 abbrev Inv-loop : tie.InvT-loop
-Inv-loop row table pattern most count₀ from₀ count from =
+Inv-loop row table pattern outline count₀ from₀ count from =
     (from ≤ length row) × (count ≤ from) × ((a : Alphabet) → Checked a (programme row table) pattern → Tally a row pattern count from)
 
 abbrev μ-loop : tie.MeasureT-loop
-μ-loop row table pattern most count₀ from₀ count from = length row - from
+μ-loop row table pattern outline count₀ from₀ count from = length row - from
 
 -- what the function was given
 abbrev Start : Type 0
@@ -44,10 +44,10 @@ abbrev loop : Found → Loop
 loop c = c .before .before .before
 
 first : (c : Found) → (let l = loop c in let s = start l in
-    (a : Alphabet) → Checked a (lent s) (sought s) → FirstFrom a (s .args .row .now) (sought s) (l .loop .from) (c .next .given .0 .0))
+    (a : Alphabet) → Checked a (lent s) (sought s) → FirstFrom a (s .args .row .now) (sought s) (l .loop .from) (length (s .args .row .now)) (c .next .given .0 .0))
 first c a k =
     let l = loop c in let s = start l in
-    subst (NextIs a (s .args .row .now) (sought s) (l .loop .from)) (c .next .given .1) (c .before .before .next-match .ensures a k)
+    subst (NextIs a (s .args .row .now) (sought s) (l .loop .from) (length (s .args .row .now))) (c .next .given .1) (c .before .before .next-match .ensures a k)
 
 -- the match lies at `from` or past it, within the row
 bounds : (c : Found) → (let l = loop c in (l .loop .from ≤ c .next .given .0 .0) × (c .next .given .0 .0 < length (start l .args .row .now)))
@@ -55,13 +55,13 @@ bounds c = let s = start (loop c) in let n = first c (s .pre .0) (s .pre .1) in 
 
 -- where none is found
 none : (c : tie.After-enum-told Inv-loop μ-loop) → (let l = c .before .before .before in let s = start l in
-    (a : Alphabet) → Checked a (lent s) (sought s) → NoneFrom a (s .args .row .now) (sought s) (l .loop .from))
+    (a : Alphabet) → Checked a (lent s) (sought s) → NoneFrom a (s .args .row .now) (sought s) (l .loop .from) (length (s .args .row .now)))
 none c a k =
     let l = c .before .before .before in let s = start l in
-    subst (NextIs a (s .args .row .now) (sought s) (l .loop .from)) (c .enum-told .given .1) (c .before .before .next-match .ensures a k)
+    subst (NextIs a (s .args .row .now) (sought s) (l .loop .from) (length (s .args .row .now))) (c .enum-told .given .1) (c .before .before .next-match .ensures a k)
 
-most-symbols-requires : tie.Need-most-symbols-requires Inv-loop μ-loop
-most-symbols-requires c κs = search needs
+outline-of-requires : tie.Need-outline-of-requires Inv-loop μ-loop
+outline-of-requires c κs = search needs
 
 loop-holds : tie.Need-loop-holds Inv-loop μ-loop
 loop-holds c =
@@ -69,7 +69,7 @@ loop-holds c =
     (omega arith, omega arith, λ a k. tally-start a (s .args .row .now) (sought s))
 
 next-match-requires : tie.Need-next-match-requires Inv-loop μ-loop
-next-match-requires c κs = let s = start c in (s .pre, c .before .most-symbols .ensures (lent s) (omega arith), c .loop .inv .0)
+next-match-requires c κs = let s = start c in (s .pre, c .before .outline-of .ensures (lent s) (omega arith), c .loop .inv .0)
 
 enum-known-next : tie.Need-enum-known-next Inv-loop μ-loop
 enum-known-next c = search needs
@@ -103,7 +103,7 @@ count-matches-spec =
     (tie.spec
     Inv-loop
     μ-loop
-    most-symbols-requires
+    outline-of-requires
     loop-holds
     next-match-requires
     enum-known-next

@@ -17,12 +17,12 @@ use Rattle.searches.proofs.write_matches.Statement.{statement}
 use Rattle.searches.proofs.write_matches.Tie as tie
 
 abbrev Inv-loop : tie.InvT-loop
-Inv-loop row table pattern out₀ most count₀ from₀ out count from =
+Inv-loop row table pattern out₀ outline count₀ from₀ out count from =
     (from ≤ length row) × (count ≤ from) × (length out ≡ length out₀)
     × ((a : Alphabet) → Checked a (programme row table) pattern → (t : Tally a row pattern count from) × (out ≡ written out₀ 0 (t .positions)))
 
 abbrev μ-loop : tie.MeasureT-loop
-μ-loop row table pattern out₀ most count₀ from₀ out count from = length row - from
+μ-loop row table pattern out₀ outline count₀ from₀ out count from = length row - from
 
 -- what the function was given
 abbrev Start : Type 0
@@ -48,10 +48,10 @@ abbrev loop : Found → Loop
 loop c = c .before .before .before
 
 first : (c : Found) → (let l = loop c in let s = start l in
-    (a : Alphabet) → Checked a (lent s) (sought s) → FirstFrom a (s .args .row .now) (sought s) (l .loop .from) (c .next .given .0 .0))
+    (a : Alphabet) → Checked a (lent s) (sought s) → FirstFrom a (s .args .row .now) (sought s) (l .loop .from) (length (s .args .row .now)) (c .next .given .0 .0))
 first c a k =
     let l = loop c in let s = start l in
-    subst (NextIs a (s .args .row .now) (sought s) (l .loop .from)) (c .next .given .1) (c .before .before .next-match .ensures a k)
+    subst (NextIs a (s .args .row .now) (sought s) (l .loop .from) (length (s .args .row .now))) (c .next .given .1) (c .before .before .next-match .ensures a k)
 
 -- the match lies at `from` or past it, within the row
 bounds : (c : Found) → (let l = loop c in (l .loop .from ≤ c .next .given .0 .0) × (c .next .given .0 .0 < length (start l .args .row .now)))
@@ -59,10 +59,10 @@ bounds c = let s = start (loop c) in let n = first c (s .pre .0 .0) (s .pre .0 .
 
 -- where none is found
 none : (c : tie.After-enum-told Inv-loop μ-loop) → (let l = c .before .before .before in let s = start l in
-    (a : Alphabet) → Checked a (lent s) (sought s) → NoneFrom a (s .args .row .now) (sought s) (l .loop .from))
+    (a : Alphabet) → Checked a (lent s) (sought s) → NoneFrom a (s .args .row .now) (sought s) (l .loop .from) (length (s .args .row .now)))
 none c a k =
     let l = c .before .before .before in let s = start l in
-    subst (NextIs a (s .args .row .now) (sought s) (l .loop .from)) (c .enum-told .given .1) (c .before .before .next-match .ensures a k)
+    subst (NextIs a (s .args .row .now) (sought s) (l .loop .from) (length (s .args .row .now))) (c .enum-told .given .1) (c .before .before .next-match .ensures a k)
 
 -- there is room for one more
 fits : (c : Found) → (let i = loop c .loop in i .count < length (i .out))
@@ -71,8 +71,8 @@ fits c =
     let a = s .pre .0 .0 in let k = s .pre .0 .1 in
     omega (arith, i .inv .2, tally-room a (lent s) (sought s) k (i .count) (i .from) (i .inv .3 a k .0) _ (first c a k) (length (s .args .out .now)) (s .pre .1))
 
-most-symbols-requires : tie.Need-most-symbols-requires Inv-loop μ-loop
-most-symbols-requires c κs = search needs
+outline-of-requires : tie.Need-outline-of-requires Inv-loop μ-loop
+outline-of-requires c κs = search needs
 
 loop-holds : tie.Need-loop-holds Inv-loop μ-loop
 unfolding tally-start
@@ -81,7 +81,7 @@ loop-holds c =
     (omega arith, omega arith, refl, λ a k. (tally-start a (s .args .row .now) (sought s), sym (written-nil (s .args .out .now) 0)))
 
 next-match-requires : tie.Need-next-match-requires Inv-loop μ-loop
-next-match-requires c κs = let s = start c in (s .pre .0, c .before .most-symbols .ensures (lent s) (omega arith), c .loop .inv .0)
+next-match-requires c κs = let s = start c in (s .pre .0, c .before .outline-of .ensures (lent s) (omega arith), c .loop .inv .0)
 
 enum-known-next : tie.Need-enum-known-next Inv-loop μ-loop
 enum-known-next c = search needs
@@ -138,7 +138,7 @@ write-matches-spec =
     (tie.spec
     Inv-loop
     μ-loop
-    most-symbols-requires
+    outline-of-requires
     loop-holds
     next-match-requires
     enum-known-next

@@ -5,6 +5,7 @@ use Prim.Native.Nat.{ℕ}
 use mathlib.Core.Path.{_≡_, sym, _∙_, subst}
 use mathlib.Core.List.{List}
 use native.Mathlib.Omega.{arith}
+use lib.ListN.{length}
 use Rattle.rows.specs.Programme.{Alphabet, Programme, alphabetOf, programme}
 use Rattle.rows.specs.declared.Check.the-variants.{Fine}
 use Rattle.patterns.specs.Searchable.{Checked}
@@ -42,17 +43,17 @@ both : (c : tie.After-enum-told) → (let s = c .before .before in Checked (a s)
 both c = let s = c .before .before in newer-checked (a s) (P s) (O s) (q s) (fine c)
 
 -- what the search of each row says of an answer that is known
-in-corrected : (c : tie.After-first-match) (r : Next) → c .first-match .result ≡ r → (let s = c .before .before .before in NextIs (a s) (P s .row) (q s) 0 r)
+in-corrected : (c : tie.After-first-match) (r : Next) → c .first-match .result ≡ r → (let s = c .before .before .before in NextIs (a s) (P s .row) (q s) 0 (length (P s .row)) r)
 in-corrected c r e =
     let s = c .before .before .before in
-    subst (NextIs (a s) (P s .row) (q s) 0) e (c .first-match .ensures (a s) (both (c .before) .0))
+    subst (NextIs (a s) (P s .row) (q s) 0 (length (P s .row))) e (c .first-match .ensures (a s) (both (c .before) .0))
 
 in-record : (c : tie.After-first-match2) (r : Next) → c .first-match2 .result ≡ r
-    → (let s = c .before .before .before .before .before .before in NextIs (a s) (O s .row) (q s) 0 r)
+    → (let s = c .before .before .before .before .before .before in NextIs (a s) (O s .row) (q s) 0 (length (O s .row)) r)
 in-record c r e =
     let n = c .before .before .before in
     let s = n .before .before .before in
-    subst (NextIs (a s) (O s .row) (q s) 0) e (c .first-match2 .ensures (a s) (both (n .before) .1))
+    subst (NextIs (a s) (O s .row) (q s) 0 (length (O s .row))) e (c .first-match2 .ensures (a s) (both (n .before) .1))
 
 check-newer-requires : tie.Need-check-newer-requires
 check-newer-requires c κs = search needs

@@ -1,0 +1,17 @@
+-- `searches::outline_of` meets its contract.
+-- Assumes nothing.
+use borrow.Author.Needs.{needs}
+use Rattle.searches.proofs.outline_of.Statement.{statement}
+use Rattle.searches.proofs.outline_of.Tie as tie
+
+count-compared-requires : tie.Need-count-compared-requires
+count-compared-requires c κs = search needs
+
+most-symbols-requires : tie.Need-most-symbols-requires
+most-symbols-requires c κs = search needs
+
+returns : tie.Need-returns
+returns c P h = record { compared = c .before .count-compared .ensures; most = c .most-symbols .ensures P h }
+
+pub outline-of-spec : {M : Type 1} → statement M
+outline-of-spec = tie.close (tie.spec count-compared-requires most-symbols-requires returns)
