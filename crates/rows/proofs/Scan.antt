@@ -12,7 +12,7 @@ use lib.ListN.{length, getD, take, drop, length-drop, drop-of-length-le}
 use lib.Seq.{drop-cons, length-take-le, getD-take, getD-drop}
 use borrow.Author.Tests.{lt-ltb, le-ltb, ltb-false}
 use Rattle.rows.specs.Row.{pick, verdict, allowed, sized}
-use Rattle.rows.specs.Reading.{ReadTo, SymbolsTo}
+use Rattle.rows.specs.Reading.{ReadTo, BelowTo}
 use Rattle.rows.specs.declared.Leaves.{Leaves}
 use Rattle.rows.specs.declared.Leaves.the-variants.{Symbols, Blanks}
 use Rattle.rows.specs.Refusals.{aritiesFit, someLeaf}
@@ -31,6 +31,14 @@ pub arity-at : (l : List ℕ) (i : ℕ) → i < length l
     → aritiesFit i (drop i l) ≡ pick (ltb arityMost (getD l i 0)) (Refused (Arities (Over i))) (aritiesFit (i + 1) (drop (i + 1) l))
 unfolding aritiesFit
 arity-at l i h = ap (aritiesFit i) (drop-more l i h)
+
+-- what the check says of the alphabet it says of the arities behind those that fit
+pub arities-behind : (l : List ℕ) (n : ℕ) → BelowTo (arityMost + 1) l n → aritiesFit 0 l ≡ aritiesFit n (drop n l)
+arities-behind l zero h = refl
+arities-behind l (suc n) h =
+    arities-behind l n (omega (arith, h .0), λ k u. h .1 k (omega arith))
+    ∙ arity-at l n (omega (arith, h .0))
+    ∙ simp (le-ltb arityMost (getD l n 0) (omega (arith, h .1 n (omega arith))), add-one)
 
 pub leaf-at : (l : List ℕ) (i : ℕ) → i < length l → someLeaf (drop i l) ≡ pick (eqb (getD l i 0) 0) Fine (someLeaf (drop (i + 1) l))
 unfolding someLeaf
@@ -103,10 +111,10 @@ pub allowed-symbol : (k : Leaves) (A : List ℕ) (s : ℕ) → s < length A → 
 allowed-symbol Symbols A s h = lt-ltb s (length A) h
 allowed-symbol Blanks A s h = simp (lt-ltb s (length A) h)
 
--- a stretch that has no number above r is one of symbols, if r is one
-pub symbols-more : (m : ℕ) (w : List ℕ) (n k r : ℕ) → SymbolsTo m w n → n + k ≤ length w
-    → ((j : ℕ) → j < length (take k (drop n w)) → getD (take k (drop n w)) j 0 ≤ r) → r < m → SymbolsTo m w (n + k)
-symbols-more m w n k r front within all small = (within, λ j h. at j h (decLt j n))
+-- a stretch that has no number above r is below the bound, if r is
+pub below-more : (m : ℕ) (w : List ℕ) (n k r : ℕ) → BelowTo m w n → n + k ≤ length w
+    → ((j : ℕ) → j < length (take k (drop n w)) → getD (take k (drop n w)) j 0 ≤ r) → r < m → BelowTo m w (n + k)
+below-more m w n k r front within all small = (within, λ j h. at j h (decLt j n))
   where
     long : length (take k (drop n w)) ≡ k
     long = length-take-le k (drop n w) (omega (arith, length-drop n w))

@@ -26,5 +26,5 @@ Reads A ok w i (Due d) = ReadTo A ok w (i + 1) d
 Reads A ok w i (Fault f) = verdict A ok 1 0 w ≡ Faulty f
 
 -- the n numbers at the front of a list are below m: they are symbols of an alphabet of m
-abbrev pub SymbolsTo : ℕ → List ℕ → ℕ → Type 0
-SymbolsTo m w n = (n ≤ length w) × ((k : ℕ) → k < n → getD w k 0 < m)
+abbrev pub BelowTo : ℕ → List ℕ → ℕ → Type 0
+BelowTo m w n = (n ≤ length w) × ((k : ℕ) → k < n → getD w k 0 < m)

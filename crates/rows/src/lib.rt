@@ -5,7 +5,7 @@ ghost use mathlib.Core.List.{List, []};
 ghost use Prim.Native.Nat.{ℕ, _+_, _-_, _≤_, _<_, min};
 ghost use lib.ListN.{length, getD};
 ghost use Rattle.rows.specs.Row.{verdict, isVariable, allowed, sized, reading};
-ghost use Rattle.rows.specs.Reading.{ReadTo, Reads, SymbolsTo};
+ghost use Rattle.rows.specs.Reading.{ReadTo, Reads, BelowTo};
 ghost use Rattle.rows.specs.Limits.{rowMost};
 ghost use Rattle.rows.specs.Programme.{alphabetOf};
 ghost use Rattle.rows.specs.Refusals.{aritiesFit, someLeaf, alphabet, keeps, sizes, symbols};
@@ -102,11 +102,40 @@ pub enum Check {
     Refused(Refusal),
 }
 
+// The largest number of a part. What counts is that none is above it.
+fn largest(part: &[u16]) -> u16
+    ensures { λ r. ⌜ ((k : ℕ) → k < length (now (part .entry)) → getD (now (part .entry)) k 0 ≤ r) ⌝ }
+{
+    let mut most: u16 = 0;
+    for k in 0..part.len() {
+        let s = part[k];
+        if most < s {
+            most = s;
+        }
+    }
+    most
+}
+
+// How many numbers at the front are below the bound for sure: whole stretches of 64, up to the first that has another number.
+// A stretch is looked at without a way out of it, which the compiler turns into vector instructions.
+fn count_below(bound: usize, list: &[u16]) -> usize
+    ensures { λ r. ⌜ BelowTo bound (now (list .entry)) r ⌝ }
+{
+    let mut n = 0;
+    while n + 64 <= list.len() {
+        if bound <= largest(&list[n..n + 64]) as usize {
+            return n;
+        }
+        n += 64;
+    }
+    n
+}
+
 // Refusal 2: the first arity over 15.
 fn check_arities(arities: &[u16]) -> Check
     ensures { λ r. ⌜ r ≡ aritiesFit 0 (now (arities .entry)) ⌝ }
 {
-    let mut i = 0;
+    let mut i = count_below(ARITY_MOST as usize + 1, arities);
     while i < arities.len() {
         if ARITY_MOST < arities[i] {
             return Check::Refused(Refusal::Arities(Arities::Over(i)));
@@ -242,38 +271,9 @@ fn read_on(arities: &[u16], row: &[u16], leaves: Leaves, from: Reached) -> Verdi
     read_end(row.len(), due)
 }
 
-// The largest number of a part. What counts is that none is above it.
-fn largest(part: &[u16]) -> u16
-    ensures { λ r. ⌜ ((k : ℕ) → k < length (now (part .entry)) → getD (now (part .entry)) k 0 ≤ r) ⌝ }
-{
-    let mut most: u16 = 0;
-    for k in 0..part.len() {
-        let s = part[k];
-        if most < s {
-            most = s;
-        }
-    }
-    most
-}
-
-// How many numbers at the front are symbols for sure: whole stretches of 64, up to the first that has another number. A
-// stretch is looked at without a way out of it, which the compiler turns into vector instructions.
-fn count_symbols(symbols: usize, row: &[u16]) -> usize
-    ensures { λ r. ⌜ SymbolsTo symbols (now (row .entry)) r ⌝ }
-{
-    let mut n = 0;
-    while n + 64 <= row.len() {
-        if symbols <= largest(&row[n..n + 64]) as usize {
-            return n;
-        }
-        n += 64;
-    }
-    n
-}
-
 // Reads at most the n numbers at the front, which are symbols, two a turn, and stops where nothing may be due any more.
 fn read_symbols(arities: &[u16], row: &[u16], n: usize) -> Reached
-    requires { ⌜ SymbolsTo (length (now arities)) (now row) n × (length (now row) ≤ rowMost) ⌝ }
+    requires { ⌜ BelowTo (length (now arities)) (now row) n × (length (now row) ≤ rowMost) ⌝ }
     ensures { λ r. ⌜ ((leaves : Leaves) → ReadTo (now (arities .entry)) (allowed leaves (now (arities .entry))) (now (row .entry)) (r .at) (r .due)) ⌝ }
 {
     let mut due: usize = 1;
@@ -295,7 +295,7 @@ pub fn check_row(arities: &[u16], row: &[u16], leaves: Leaves) -> Verdict
     requires { ⌜ length (now row) ≤ rowMost ⌝ }
     ensures { λ r. ⌜ r ≡ verdict (now (arities .entry)) (allowed leaves (now (arities .entry))) 1 0 (now (row .entry)) ⌝ }
 {
-    let n = count_symbols(arities.len(), row);
+    let n = count_below(arities.len(), row);
     let front = read_symbols(arities, row, n);
     read_on(arities, row, leaves, front)
 }

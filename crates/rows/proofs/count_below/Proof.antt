@@ -1,20 +1,20 @@
--- `rows::count_symbols` meets its contract. The loop's invariant: the first n numbers are symbols.
+-- `rows::count_below` meets its contract. The loop's invariant: the first n numbers are below the bound.
 -- Assumes nothing.
 use Prim.Native.Nat.{ℕ, _+_, _-_, _≤_, _<_}
 use mathlib.Core.Path.{_≡_, subst}
 use native.Mathlib.Omega.{arith}
 use lib.ListN.{length, getD, take, drop}
-use Rattle.rows.specs.Reading.{SymbolsTo}
-use Rattle.rows.proofs.Scan.{symbols-more}
+use Rattle.rows.specs.Reading.{BelowTo}
+use Rattle.rows.proofs.Scan.{below-more}
 use borrow.Author.Needs.{needs}
-use Rattle.rows.proofs.count_symbols.Statement.{statement}
-use Rattle.rows.proofs.count_symbols.Tie as tie
+use Rattle.rows.proofs.count_below.Statement.{statement}
+use Rattle.rows.proofs.count_below.Tie as tie
 
 abbrev Inv-loop : tie.InvT-loop
-Inv-loop symbols row n₀ n = SymbolsTo symbols row n
+Inv-loop bound list n₀ n = BelowTo bound list n
 
 abbrev μ-loop : tie.MeasureT-loop
-μ-loop symbols row n₀ n = length row - n
+μ-loop bound list n₀ n = length list - n
 
 loop-holds : tie.Need-loop-holds Inv-loop μ-loop
 loop-holds c = (search needs, λ k h. absurd (omega arith))
@@ -59,15 +59,15 @@ loop-again c =
     let r = c .before .largest .result in
     let long : l .n + 64 - l .n ≡ 64 = omega arith in
     let all =
-    subst (λ (k : ℕ). (j : ℕ) → j < length (take k (drop (l .n) (a .row .now))) → getD (take k (drop (l .n) (a .row .now))) j 0 ≤ r) long
+    subst (λ (k : ℕ). (j : ℕ) → j < length (take k (drop (l .n) (a .list .now))) → getD (take k (drop (l .n) (a .list .now))) j 0 ≤ r) long
     (c .before .largest .ensures) in
-    symbols-more (a .symbols) (a .row .now) (l .n) 64 r (l .inv) (c .before .before .before .loop-test .taken) all (c .if1 .left)
+    below-more (a .bound) (a .list .now) (l .n) 64 r (l .inv) (c .before .before .before .loop-test .taken) all (c .if1 .left)
 
 returns-2 : tie.Need-returns-2 Inv-loop μ-loop
 returns-2 c = c .before .loop .inv
 
-pub count-symbols-spec : {M : Type 1} → statement M
-count-symbols-spec =
+pub count-below-spec : {M : Type 1} → statement M
+count-below-spec =
     tie.close
     (tie.spec
     Inv-loop
