@@ -26,13 +26,16 @@ fn fill_beside(arities: &[u8], row: &[u8], table: &mut [u8], standing: &mut [u16
     }
 }
 
-// The table of an accepted row is written to the front of `table`. A short row takes less room for the ends.
+// The table of an accepted row is written to the front of `table`. A shorter row takes less room for the ends.
 pub fn fill_table(arities: &[u8], row: &[u8], table: &mut [u8])
     requires { ⌜ Fillable (numbers (now arities)) (numbers (now row)) (numbers (now table)) 0 ⌝ }
     ensures { λ r. ⌜ now (table .exit) ≡ written (now (table .entry)) 0 (bytesOf (written (numbers (now (table .entry))) 0 (tableOf (numbers (now (arities .entry))) (numbers (now (row .entry)))))) ⌝ }
 {
-    if wire::count(row) <= tables::FEW {
+    if wire::count(row) <= tables::SHORT {
         let mut standing = tables::short_room();
+        fill_beside(arities, row, table, &mut standing);
+    } else if wire::count(row) <= tables::MIDDLE {
+        let mut standing = tables::middle_room();
         fill_beside(arities, row, table, &mut standing);
     } else {
         let mut standing = tables::long_room();

@@ -17,9 +17,12 @@ use Rattle.rows.specs.declared.Check.the-variants.{Fine, Refused}
 use Rattle.tables.specs.declared.Seen.{Seen}
 use Rattle.tables.specs.declared.Seen.the-variants.{NoTree, Tree}
 
--- a row of at most so many symbols is short: the ends of its trees are kept in less room
-abbrev pub few : ℕ
-few = 256
+-- a row of at most so many symbols is short, and of middle length: the ends of its trees are kept in less room
+abbrev pub short : ℕ
+short = 256
+
+abbrev pub middle : ℕ
+middle = 2048
 
 -- a row within the sizes, and a table with room for it
 pub record Sized (w t : List ℕ) : Type 0 where

@@ -13,25 +13,34 @@ ghost use Rattle.rows.specs.Programme.{alphabetOf, programme};
 ghost use Rattle.rows.specs.Refusals.{_then_, keeps, symbols, fresh, kept};
 ghost use Rattle.rows.specs.declared.Kept.{Kept};
 ghost use Rattle.rows.specs.declared.Refusal.{Refusal};
-ghost use Rattle.tables.specs.Given.{few, Sized, Fillable, Sees};
+ghost use Rattle.tables.specs.Given.{short, middle, Sized, Fillable, Sees};
 ghost use Rattle.tables.specs.Beside.{Passed, Compares};
 use rows::Keeping;
 use rows::Kept;
 
-// A row of at most so many symbols is short.
-pub const FEW: usize = 256;
+// A row of at most so many symbols is short, and one of at most so many is of middle length.
+pub const SHORT: usize = 256;
 
-// Room for as many numbers as the longest row has; and for few, which is sooner cleared.
+pub const MIDDLE: usize = 2_048;
+
+// Room for as many numbers as the longest row has, as one of middle length has, and as a short one has: a smaller room is sooner
+// cleared.
 pub fn long_room() -> [u16; rows::ROW_MOST]
     ensures { λ r. ⌜ rowMost ≡ length r ⌝ }
 {
     [0u16; rows::ROW_MOST]
 }
 
-pub fn short_room() -> [u16; FEW]
-    ensures { λ r. ⌜ few ≡ length r ⌝ }
+pub fn middle_room() -> [u16; MIDDLE]
+    ensures { λ r. ⌜ middle ≡ length r ⌝ }
 {
-    [0u16; FEW]
+    [0u16; MIDDLE]
+}
+
+pub fn short_room() -> [u16; SHORT]
+    ensures { λ r. ⌜ short ≡ length r ⌝ }
+{
+    [0u16; SHORT]
 }
 
 // The ends of an accepted row that stands from position `at` on are written from there on, from right to left. `standing`
@@ -58,8 +67,11 @@ pub fn fill_ends(arities: &[u16], row: &[u16], table: &mut [u16], at: usize)
     requires { ⌜ Fillable (now arities) (now row) (now table) at ⌝ }
     ensures { λ r. ⌜ now (table .exit) ≡ written (now (table .entry)) at (ends at (parse (now (arities .entry)) (now (row .entry)))) ⌝ }
 {
-    if row.len() <= FEW {
+    if row.len() <= SHORT {
         let mut standing = short_room();
+        fill_beside(arities, row, table, at, &mut standing);
+    } else if row.len() <= MIDDLE {
+        let mut standing = middle_room();
         fill_beside(arities, row, table, at, &mut standing);
     } else {
         let mut standing = long_room();
@@ -165,8 +177,12 @@ fn compare_ends(arities: &[u16], row: &[u16], table: &[u16]) -> Seen
     requires { ⌜ Sized (now row) (now table) ⌝ }
     ensures { λ r. ⌜ Sees (now (arities .entry)) (now (row .entry)) (now (table .entry)) r ⌝ }
 {
-    if row.len() <= FEW {
+    if row.len() <= SHORT {
         let mut standing = short_room();
+        return compare_beside(arities, row, table, &mut standing);
+    }
+    if row.len() <= MIDDLE {
+        let mut standing = middle_room();
         return compare_beside(arities, row, table, &mut standing);
     }
     let mut standing = long_room();
