@@ -1,19 +1,24 @@
 -- How long the lists of the matches are; counting, room, and the list with its number.
 -- Assumes nothing.
 use Prim.Native.Nat.{ℕ, zero, suc, _+_, _≤_, _<_}
-use mathlib.Core.Path.{_≡_, refl, ap}
+use mathlib.Core.Path.{_≡_, refl, sym, ap, _∙_}
 use mathlib.Core.List.{List, [], _∷_, _++_}
 use mathlib.Core.Bool.{Bool, true, false}
 use native.Mathlib.Omega.{arith}
 use native.Mathlib.Decide.{ℕ-discrete}
-use lib.ListN.{length, length-append}
+use native.Mathlib.Numerals.{add-one}
+use lib.ListN.{length, getD, length-append}
 use Rattle.rows.specs.Programme.{Alphabet, Programme}
 use Rattle.rows.specs.Row.{pick}
+use Rattle.patterns.specs.Pattern.{leaf}
 use Rattle.patterns.specs.Answers.{Listed}
 use Rattle.patterns.specs.Searchable.{Checked}
 use Rattle.patterns.specs.Walk.{comesThrough, below}
+use Rattle.patterns.specs.declared.Leaf.the-variants.{Plain}
+use Rattle.patterns.proofs.Matching.{checked-pattern}
 use Rattle.patterns.proofs.Listing.{listed-none, listed-here, listed-skip, listed-once, listing}
-use Rattle.searches.specs.Searches.{FirstFrom, NoneFrom, Counts, RoomFor}
+use Rattle.searches.specs.Searches.{FirstFrom, NoneFrom, positionsBelow, Counts, RoomFor}
+use Rattle.searches.proofs.Searching.{bare-matches}
 
 -- the list of the numbers that pass a test is at most as long as the bound, and longer for a higher one
 below-length : (f : ℕ → Bool) (n : ℕ) → length (below f n) ≤ n
@@ -65,12 +70,16 @@ module _ (a : Alphabet) (w q : List ℕ) (count from : ℕ) (t : Tally a w q cou
         many = omega (arith, t .many, length-append (t .positions) (p ∷ []));
       }
 
-  -- there is none: all are listed
-  pub tally-end : from ≤ length w → NoneFrom a w q from (length w) → Listed a w q (length w) (t .positions)
-  tally-end h n = listed-skip a w q from (length w) (t .positions) (t .listed) h n
+  -- there is none up to `to`
+  unfoldable pub tally-on : (to : ℕ) → from ≤ to → NoneFrom a w q from to → Tally a w q count to
+  tally-on to l n = record { positions = t .positions; listed = listed-skip a w q from to (t .positions) (t .listed) l n; many = t .many }
 
-  pub tally-counts : from ≤ length w → NoneFrom a w q from (length w) → Counts a w q count
-  tally-counts h n = record { positions = t .positions; listed = tally-end h n; many = t .many }
+  -- at the row's end all are listed
+  pub tally-end : from ≤ length w → length w ≤ from → Listed a w q (length w) (t .positions)
+  tally-end l h = listed-skip a w q from (length w) (t .positions) (t .listed) l (λ x b u m. omega arith)
+
+  pub tally-counts : from ≤ length w → length w ≤ from → Counts a w q count
+  tally-counts l h = record { positions = t .positions; listed = tally-end l h; many = t .many }
 
 -- where all matches have room, so has the next one
 pub tally-room : (a : Alphabet) (P : Programme) (q : List ℕ) → Checked a P q → (count from : ℕ) → Tally a (P .row) q count from
@@ -93,3 +102,23 @@ room-counted P q r n f h a ps c l =
 
 pub room-enough : (P : Programme) (q : List ℕ) (n : ℕ) → length (P .row) ≤ n → RoomFor P q n
 room-enough P q n h a ps c l = omega (arith, listed-length a P q c (length (P .row)) ps (omega arith) l)
+
+-- BARE PATTERNS match everywhere
+pub positions-length : (n : ℕ) → length (positionsBelow n) ≡ n
+unfolding below
+positions-length zero = refl
+positions-length (suc n) = length-append (positionsBelow n) (n ∷ []) ∙ omega (arith, positions-length n)
+
+pub positions-more : (n : ℕ) → positionsBelow n ++ (n ∷ []) ≡ positionsBelow (n + 1)
+unfolding below
+positions-more n = rw add-one refl
+
+module _ (a : Alphabet) (P : Programme) (q : List ℕ) (c : Checked a P q) (bare : leaf (getD q 0 0) ≡ Plain → ⊥) where
+  pub listed-everywhere : (n : ℕ) → Listed a (P .row) q n (positionsBelow n)
+  unfolding below
+  listed-everywhere zero = listed-none a (P .row) q
+  listed-everywhere (suc n) =
+      rw (← add-one) (listed-here a (P .row) q n (positionsBelow n) (listed-everywhere n) (bare-matches a (P .row) q (checked-pattern a P q c) bare n))
+
+  pub count-everywhere : Counts a (P .row) q (length (P .row))
+  count-everywhere = record { positions = positionsBelow (length (P .row)); listed = listed-everywhere (length (P .row)); many = sym (positions-length (length (P .row))) }

@@ -13,7 +13,11 @@ use lib.Seq.{getD-take, getD-drop}
 use Rattle.rows.specs.Programme.{Alphabet, Programme}
 use Rattle.rows.specs.Tree.{Forest, Forest.none, Tree, single, prefix, subtreeAt}
 use Rattle.rows.specs.Parse.{parse, treeOf}
-use Rattle.rows.specs.Row.{pick}
+use Rattle.rows.specs.Row.{pick, allowed}
+use Rattle.rows.specs.declared.Leaves.the-variants.{Symbols}
+use Rattle.rows.proofs.Tree.{count-size}
+use Rattle.rows.proofs.Parse.{size-parse}
+use Rattle.rows.proofs.Accept.{count-parse}
 use Rattle.patterns.specs.Pattern.{leaf, plug, filled}
 use Rattle.patterns.specs.Answers.{MatchesAt}
 use Rattle.patterns.specs.Searchable.{Checked, Searchable}
@@ -26,6 +30,12 @@ use Rattle.patterns.proofs.Steps.{steps-same, steps-plain}
 use Rattle.searches.specs.Searches.{BlankFrom, AtMost, Without, mayMatch, FirstFrom, NoneFrom}
 use Rattle.searches.proofs.Going.{lent-ends, Walking, walking-start, walking-to, walking-stops}
 
+-- an accepted row is not empty
+pub row-some : (a : Alphabet) (P : Programme) (q : List ℕ) → Checked a P q → 0 < length (P .row)
+row-some a P q c =
+    let A : List ℕ = a .arities in
+    omega (arith, count-parse A (allowed Symbols A) (P .row) 1 0 (c .row .accepted), size-parse A (P .row), count-size (parse A (P .row)))
+
 -- S or a variable alone matches everywhere
 plug-bare : (t : Tree) (s : ℕ) (cs : Forest) (l : Leaf) → (l ≡ Plain → ⊥)
     → plug (record { forBlank = λ b. t; forVariable = λ i. t }) 0 s l cs none ≡ single t
@@ -33,7 +43,7 @@ plug-bare t s cs Plain n = absurd (n refl)
 plug-bare t s cs Blank n = refl
 plug-bare t s cs (Variable i) n = refl
 
-bare-matches : (a : Alphabet) (w q : List ℕ) → PatternOf (a .arities) q → (leaf (getD q 0 0) ≡ Plain → ⊥) → (p : ℕ) → MatchesAt a w q p
+pub bare-matches : (a : Alphabet) (w q : List ℕ) → PatternOf (a .arities) q → (leaf (getD q 0 0) ≡ Plain → ⊥) → (p : ℕ) → MatchesAt a w q p
 unfolding filled prefix
 bare-matches a w q Q n p =
     let t : Tree = subtreeAt (parse (a .arities) w) p in
@@ -53,9 +63,6 @@ module _ (P : Programme) (q : List ℕ) (from : ℕ) where
         here = bare-matches a (P .row) q (checked-pattern a P q c) n from;
         none-between = λ x l u m. omega arith;
       }
-
-  pub past-row : length (P .row) ≤ from → (a : Alphabet) → NoneFrom a (P .row) q from (length (P .row))
-  past-row h a x l u m = omega arith
 
   -- from `from` up to p there is no match
   pub record Passed (p : ℕ) : Type 0 where
@@ -112,6 +119,20 @@ module _ (P : Programme) (q : List ℕ) (from : ℕ) where
         go : (x : ℕ) → from ≤ x → x < n → MatchesAt a (P .row) q x → Dec (x < p) → ⊥
         go x l b m (yes d) = h .none a c x l d m
         go x l b m (no d) = f .none-between x (omega arith) b m
+
+-- STRIDES
+-- what is found before `to` is found before a later end
+pub first-wider : (a : Alphabet) (w q : List ℕ) (from to end n : ℕ) → to ≤ end → FirstFrom a w q from to n → FirstFrom a w q from end n
+first-wider a w q from to end n l f =
+    record { on = f .on; within = omega (arith, f .within); here = f .here; none-between = f .none-between }
+
+-- none up to `to`, and none behind it
+pub none-joined : (a : Alphabet) (w q : List ℕ) (from to end : ℕ) → NoneFrom a w q from to → NoneFrom a w q to end → NoneFrom a w q from end
+none-joined a w q from to end f g x l u m = go (decLt x to)
+  where
+    go : Dec (x < to) → ⊥
+    go (yes d) = f x l d m
+    go (no d) = g x (omega arith) u m
 
 -- THE OUTLINE OF A PATTERN
 -- one more S at the end
@@ -204,3 +225,14 @@ pub none-without : (P : Programme) (q : List ℕ) (s : Searchable P q) → leaf 
     → (a : Alphabet) → Checked a P q → NoneFrom a (P .row) q b e
 none-without P q s k b e u n a c x l h m =
     missed a P q c x (omega arith) 0 x (root-other P q s x (omega arith) (ne-eqb (getD (P .row) x 0) (getD q 0 0) (n x l h)) k) m
+
+-- S is no symbol, and neither is a variable
+pub blank-bare : (l : Leaf) → l ≡ Blank → l ≡ Plain → ⊥
+blank-bare Plain e z = let x : _≡_ {A = ℕ} 0 1 = cc in omega arith
+blank-bare Blank e z = let x : _≡_ {A = ℕ} 0 1 = cc in omega arith
+blank-bare (Variable i) e z = let x : _≡_ {A = ℕ} 0 1 = cc in omega arith
+
+pub variable-bare : (l : Leaf) (i : ℕ) → l ≡ Variable i → l ≡ Plain → ⊥
+variable-bare Plain i e z = let x : _≡_ {A = ℕ} 0 1 = cc in omega arith
+variable-bare Blank i e z = let x : _≡_ {A = ℕ} 0 1 = cc in omega arith
+variable-bare (Variable k) i e z = let x : _≡_ {A = ℕ} 0 1 = cc in omega arith

@@ -3,7 +3,7 @@
 use Prim.Native.Nat.{ℕ, _+_, _-_, _≤_, _<_}
 use mathlib.Core.Path.{_≡_}
 use mathlib.Core.List.{List}
-use mathlib.Core.Bool.{Bool, false}
+use mathlib.Core.Bool.{Bool, true, false}
 use lib.Dec.{ltb, leb}
 use lib.ListN.{length, getD}
 use Rattle.rows.specs.Programme.{Alphabet, Programme}
@@ -13,12 +13,14 @@ use Rattle.rows.specs.Buffers.{written}
 use Rattle.patterns.specs.Answers.{MatchesAt, Listed, spans}
 use Rattle.patterns.specs.Pattern.{leaf}
 use Rattle.patterns.specs.Searchable.{Checked, Searchable}
-use Rattle.patterns.specs.Walk.{sameSymbol, walk, unmarked, Decides, afterWalk}
+use Rattle.patterns.specs.Walk.{below, sameSymbol, walk, unmarked, Decides, afterWalk}
 use Rattle.patterns.specs.declared.Leaf.the-variants.{Plain, Blank}
 use Rattle.patterns.specs.declared.Walked.{Walked}
 use Rattle.searches.specs.declared.Outline.{Outline}
 use Rattle.searches.specs.declared.Next.{Next}
 use Rattle.searches.specs.declared.Next.the-variants.{At, Nowhere}
+use Rattle.searches.specs.declared.Stride.{Stride}
+use Rattle.searches.specs.declared.Stride.the-variants.{At as Stride·At, On}
 use Rattle.searches.specs.declared.Listing.{Listing}
 use Rattle.searches.specs.declared.Listing.the-variants.{All, Needs}
 
@@ -65,6 +67,20 @@ NoneFrom a w q from to = (x : ℕ) → from ≤ x → x < to → MatchesAt a w q
 abbrev pub NextIs : Alphabet → List ℕ → List ℕ → ℕ → ℕ → Next → Type 0
 NextIs a w q from to (At p) = FirstFrom a w q from to p
 NextIs a w q from to Nowhere = NoneFrom a w q from to
+
+-- what a stride from p finds
+abbrev pub StrideIs : Alphabet → List ℕ → List ℕ → ℕ → Stride → Type 0
+StrideIs a w q p (Stride·At n) = FirstFrom a w q p (length w) n
+StrideIs a w q p (On n) = (p < n) × (n ≤ length w) × NoneFrom a w q p n
+
+-- whether the pattern is S or a variable alone
+abbrev pub BareIs : List ℕ → Bool → Type 0
+BareIs q true = leaf (getD q 0 0) ≡ Plain → ⊥
+BareIs q false = leaf (getD q 0 0) ≡ Plain
+
+-- the positions below n, rising
+abbrev pub positionsBelow : ℕ → List ℕ
+positionsBelow n = below (λ i. true) n
 
 -- `r` is the number of all matches
 pub record Counts (a : Alphabet) (w q : List ℕ) (r : ℕ) : Type 0 where

@@ -9,7 +9,7 @@ ghost use Rattle.rows.specs.Programme.{Alphabet, Programme, programme};
 ghost use Rattle.rows.specs.Buffers.{written};
 ghost use Rattle.patterns.specs.Searchable.{Checked, Searchable};
 ghost use Rattle.patterns.specs.Walk.{Ends, MarksIn, markBegin, markEnd};
-ghost use Rattle.searches.specs.Searches.{BlankFrom, AtMost, Outlined, Seekable, mayMatch, Without, NextIs, Counts, Lists, RoomFor, VariablesAt};
+ghost use Rattle.searches.specs.Searches.{BlankFrom, AtMost, Outlined, Seekable, mayMatch, Without, NextIs, StrideIs, BareIs, positionsBelow, Counts, Lists, RoomFor, VariablesAt};
 ghost use Rattle.searches.specs.Spans.{markSpans};
 ghost use Rattle.searches.specs.declared.Listing.the-variants.{All};
 use patterns::Leaf;
@@ -149,57 +149,90 @@ fn pass_over(row: &[u16], s: u16, from: usize) -> usize
     p
 }
 
-// The first match at position `from` or after it. One is looked for close by first; behind that, only in stretches in which the
-// pattern's root stands.
-fn next_match(row: &[u16], table: &[u16], pattern: &[u16], outline: Outline, from: usize) -> Next
-    requires { ⌜ Searchable (programme (now row) (now table)) (now pattern) × Outlined (programme (now row) (now table)) (now pattern) outline × (from ≤ length (now row)) ⌝ }
-    ensures { λ r. ⌜ ((a : Alphabet) → Checked a (programme (now (row .entry)) (now (table .entry))) (now (pattern .entry)) → NextIs a (now (row .entry)) (now (pattern .entry)) from (length (now (row .entry))) r) ⌝ }
-{
-    let root = pattern[0];
-    // S or a variable alone matches everywhere.
-    let kind = patterns::leaf_of(root);
-    let Leaf::Plain = kind else {
-        if from < row.len() {
-            return Next::At(from);
-        }
-        return Next::Nowhere;
-    };
-    let mut p = from;
-    while p < row.len() {
-        let to = rows::shorter(p + STRETCH, row.len());
-        let next = match_within(row, table, pattern, outline, p, to);
-        if let Next::At(q) = next {
-            return Next::At(q);
-        }
-        p = pass_over(row, root, to);
-    }
-    Next::Nowhere
+// What a search finds from a position on: the next match; or a later position to go on from, before which there is none.
+enum Stride {
+    At(usize),
+    On(usize),
 }
 
-// The first match of all.
+// One stride from p, for a pattern whose root is a symbol: a match is looked for close by, and where there is none, stretches
+// without the root are passed over.
+fn stride_from(row: &[u16], table: &[u16], pattern: &[u16], outline: Outline, p: usize) -> Stride
+    requires { ⌜ Seekable (programme (now row) (now table)) (now pattern) outline × (p < length (now row)) ⌝ }
+    ensures { λ r. ⌜ ((a : Alphabet) → Checked a (programme (now (row .entry)) (now (table .entry))) (now (pattern .entry)) → StrideIs a (now (row .entry)) (now (pattern .entry)) p r) ⌝ }
+{
+    let to = rows::shorter(p + STRETCH, row.len());
+    let next = match_within(row, table, pattern, outline, p, to);
+    match next {
+        Next::At(n) => Stride::At(n),
+        Next::Nowhere => Stride::On(pass_over(row, pattern[0], to)),
+    }
+}
+
+// Is S or a variable all of the pattern? Then it matches everywhere.
+fn is_bare(pattern: &[u16]) -> bool
+    requires { ⌜ 0 < length (now pattern) ⌝ }
+    ensures { λ r. ⌜ BareIs (now (pattern .entry)) r ⌝ }
+{
+    let kind = patterns::leaf_of(pattern[0]);
+    match kind {
+        Leaf::Plain => false,
+        Leaf::Blank => true,
+        Leaf::Variable(_) => true,
+    }
+}
+
+// The first match.
 pub fn first_match(row: &[u16], table: &[u16], pattern: &[u16]) -> Next
     requires { ⌜ Searchable (programme (now row) (now table)) (now pattern) ⌝ }
     ensures { λ r. ⌜ ((a : Alphabet) → Checked a (programme (now (row .entry)) (now (table .entry))) (now (pattern .entry)) → NextIs a (now (row .entry)) (now (pattern .entry)) 0 (length (now (row .entry))) r) ⌝ }
 {
+    if is_bare(pattern) {
+        return Next::At(0);
+    }
     let outline = outline_of(pattern, row.len());
-    next_match(row, table, pattern, outline, 0)
+    let mut p = 0;
+    while p < row.len() {
+        let found = stride_from(row, table, pattern, outline, p);
+        match found {
+            Stride::At(n) => return Next::At(n),
+            Stride::On(n) => p = n,
+        }
+    }
+    Next::Nowhere
 }
 
 // How many matches there are.
-pub fn count_matches(row: &[u16], table: &[u16], pattern: &[u16]) -> usize
+fn count_matches(row: &[u16], table: &[u16], pattern: &[u16]) -> usize
     requires { ⌜ Searchable (programme (now row) (now table)) (now pattern) ⌝ }
     ensures { λ r. ⌜ ((a : Alphabet) → Checked a (programme (now (row .entry)) (now (table .entry))) (now (pattern .entry)) → Counts a (now (row .entry)) (now (pattern .entry)) r) ⌝ }
 {
+    if is_bare(pattern) {
+        return row.len();
+    }
     let outline = outline_of(pattern, row.len());
     let mut count = 0;
-    let mut from = 0;
-    loop {
-        let next = next_match(row, table, pattern, outline, from);
-        let Next::At(p) = next else {
-            return count;
-        };
-        count += 1;
-        from = p + 1;
+    let mut p = 0;
+    while p < row.len() {
+        let found = stride_from(row, table, pattern, outline, p);
+        match found {
+            Stride::At(n) => {
+                count += 1;
+                p = n + 1;
+            }
+            Stride::On(n) => p = n,
+        }
+    }
+    count
+}
+
+// The first n positions, at the front of `out`.
+fn write_positions(n: usize, out: &mut [u16])
+    requires { ⌜ (n ≤ length (now out)) × (n ≤ rowMost) ⌝ }
+    ensures { λ r. ⌜ now (out .exit) ≡ written (now (out .entry)) 0 (positionsBelow n) ⌝ }
+{
+    for i in 0..n {
+        out[i] = i as u16;
     }
 }
 
@@ -208,18 +241,25 @@ fn write_matches(row: &[u16], table: &[u16], pattern: &[u16], out: &mut [u16]) -
     requires { ⌜ Searchable (programme (now row) (now table)) (now pattern) × RoomFor (programme (now row) (now table)) (now pattern) (length (now out)) ⌝ }
     ensures { λ r. ⌜ ((a : Alphabet) → Checked a (programme (now (row .entry)) (now (table .entry))) (now (pattern .entry)) → Lists a (now (row .entry)) (now (pattern .entry)) (now (out .entry)) (All r) (now (out .exit))) ⌝ }
 {
+    if is_bare(pattern) {
+        write_positions(row.len(), out);
+        return row.len();
+    }
     let outline = outline_of(pattern, row.len());
     let mut count = 0;
-    let mut from = 0;
-    loop {
-        let next = next_match(row, table, pattern, outline, from);
-        let Next::At(p) = next else {
-            return count;
-        };
-        out[count] = p as u16;
-        count += 1;
-        from = p + 1;
+    let mut p = 0;
+    while p < row.len() {
+        let found = stride_from(row, table, pattern, outline, p);
+        match found {
+            Stride::At(n) => {
+                out[count] = n as u16;
+                count += 1;
+                p = n + 1;
+            }
+            Stride::On(n) => p = n,
+        }
     }
+    count
 }
 
 // What listing the matches does: all are written, so many; or nothing is, since so many places are needed.

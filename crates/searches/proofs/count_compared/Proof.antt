@@ -1,9 +1,7 @@
 -- `searches::count_compared` meets its contract: from place m on every number is S.
 -- Assumes nothing.
-use Prim.Native.Nat.{ℕ}
-use mathlib.Core.Path.{sym, ap, _∙_}
+use mathlib.Core.Path.{sym}
 use native.Mathlib.Omega.{arith}
-use Rattle.patterns.specs.Pattern.{leaf}
 use Rattle.patterns.proofs.Leaves.{leaf-blank}
 use Rattle.searches.specs.Searches.{BlankFrom}
 use Rattle.searches.proofs.Searching.{blank-more}

@@ -1,12 +1,9 @@
 -- `searches::most_symbols` meets its contract: no number before k is a blank.
 -- Assumes nothing.
-use Prim.Native.Nat.{ℕ, _-_, _<_}
-use mathlib.Core.Path.{_≡_, refl, sym, ap, _∙_, subst}
-use mathlib.Core.List.{List}
+use Prim.Native.Nat.{_-_}
+use mathlib.Core.Path.{_≡_, refl, sym, _∙_}
 use native.Mathlib.Omega.{arith}
-use lib.ListN.{length, getD}
-use Rattle.patterns.specs.Pattern.{leaf}
-use Rattle.patterns.specs.declared.Leaf.the-variants.{Plain}
+use lib.ListN.{length}
 use borrow.Author.Needs.{needs}
 use Rattle.searches.proofs.Searching.{PlainTo, plain-more, row-at-most, size-at-most}
 use Rattle.searches.proofs.most_symbols.Statement.{statement}
