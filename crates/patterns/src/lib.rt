@@ -44,7 +44,7 @@ pub fn check_pattern(arities: &[u16], list: &[u16]) -> Check
     }
 }
 
-// Are two symbols the same? Symbols are compared here only.
+// Are two symbols the same? Symbols are compared here, and in `stands_in` of `searches`, which looks for a root only.
 pub fn same(x: u16, y: u16) -> bool
     ensures { λ r. ⌜ r ≡ sameSymbol x y ⌝ }
 {
