@@ -1,49 +1,147 @@
 //! What the calls are held to, and how far each is from it.
 
+use crate::rows::LENGTHS;
 use crate::timing::Measured;
 use std::fmt::Write;
 
-/// The lengths at which the bars hold: replacements leave a little room below 16,384.
-fn counts(m: &Measured) -> bool {
-    m.n >= 4096
+/// What is held: a figure of some lines to at most `most`, or `shortest` on rows of 16 symbols, on rows of `from` symbols or more.
+struct Bar {
+    what: &'static str,
+    most: f64,
+    shortest: f64,
+    from: usize,
+    on: fn(&Measured) -> bool,
+    figure: fn(&Measured) -> f64,
 }
 
-/// The worst of some ratios, and where it was.
-fn worst(ratios: impl Iterator<Item = (f64, String)>) -> (f64, String) {
-    ratios.fold((0.0, String::new()), |a, b| if a.0 < b.0 { b } else { a })
-}
-
-fn place(m: &Measured) -> String {
-    format!("{}, {}, {}, {}", m.call, m.on, m.shape, m.n)
-}
-
-/// A call whose cost may grow faster than the row.
-fn compares(m: &Measured) -> bool {
-    m.on == "repeated variables"
-}
-
-pub fn table(all: &[Measured]) -> String {
-    let of = |by: usize| worst(all.iter().filter(|m| counts(m)).map(|m| (m.of[by], place(m))));
-    let over = |mine: &dyn Fn(&Measured) -> bool, calls: f64| {
-        worst(all.iter().filter(|m| counts(m) && mine(m)).map(|m| (m.of[2] / calls, place(m))))
-    };
-    let grows = |mine: &dyn Fn(&Measured) -> bool| {
-        worst(all.iter().filter(|m| m.n >= 16384 - 8 && mine(m)).map(|m| (m.growth, place(m))))
-    };
-    let bars = [
-        ("a whole call, of the Rust", 1.0, of(0)),
-        ("a whole call, of the C", 1.15, of(1)),
-        ("find with a rare root, of one pass over row and table", 2.5, over(&|m| m.call == "find" && m.on == "rare root", 1.0)),
-        ("a stale table, of one that is accepted", 3.0, over(&|m| m.on.contains("stale"), 1.0)),
-        ("one replacement, of a build", 2.0, over(&|m| m.call == "replace and back", 2.0)),
-        ("the whole row replaced, of a build", 2.0, over(&|m| m.on == "whole row", 1.0)),
-        ("time for each symbol, at 16,384 of that at 4,096", 1.25, grows(&|m| !compares(m))),
-    ];
-    let mut text = String::from("| bar | at most | worst measured | where |\n|---|---|---|---|\n");
-    for (what, most, (found, at)) in bars {
-        writeln!(text, "| {what} | {most} | {found:.2}{} | {at} |", if found <= most { "" } else { " (over)" }).unwrap();
+impl Bar {
+    /// The library's time as a share of the strongest C's, on rows of every length.
+    fn strongest(what: &'static str, most: f64, on: fn(&Measured) -> bool) -> Bar {
+        Bar { what, most, shortest: most.max(1.3), from: 0, on, figure: Measured::of_strongest }
     }
-    let (found, at) = grows(&compares);
-    writeln!(text, "| the same, for repeated variables | as the height | {found:.2} | {at} |\n").unwrap();
+
+    /// An exported function's time as a share of the inner call's.
+    fn exported(what: &'static str, most: f64, shortest: f64, on: fn(&Measured) -> bool) -> Bar {
+        Bar { what, most, shortest, from: 0, on, figure: Measured::of_yardstick }
+    }
+
+    /// Any other figure, on rows of some length or more.
+    fn other(what: &'static str, most: f64, from: usize, on: fn(&Measured) -> bool, figure: fn(&Measured) -> f64) -> Bar {
+        Bar { what, most, shortest: most, from, on, figure }
+    }
+
+    fn limit(&self, n: usize) -> f64 {
+        if n == LENGTHS[0] { self.shortest } else { self.most }
+    }
+
+    /// The worst figure over all rows of a length, and its line. Replacements leave a little room below the longest row.
+    fn worst<'a>(&self, all: &'a [Measured], n: usize) -> Option<(f64, &'a Measured)> {
+        let mine = all.iter().filter(|m| (m.n == n || m.n == n - 8) && (self.on)(m));
+        mine.map(|m| ((self.figure)(m), m)).filter(|(figure, _)| !figure.is_nan()).max_by(|a, b| a.0.total_cmp(&b.0))
+    }
+
+    fn broken_by(&self, figure: f64, n: usize) -> bool {
+        n >= self.from && figure > self.limit(n)
+    }
+
+    /// A line of the table: the bar, its limits, and the worst figure at each length, in bold where the bar is broken.
+    fn line(&self, all: &[Measured]) -> String {
+        let limits = match (self.most, self.shortest) {
+            (most, _) if most.is_infinite() => "not held".to_string(),
+            (most, shortest) if most == shortest => most.to_string(),
+            (most, shortest) => format!("{most}; {shortest} at 16"),
+        };
+        let cell = |n| match self.worst(all, n) {
+            None => " |".to_string(),
+            Some((figure, _)) if self.broken_by(figure, n) => format!(" **{figure:.2}** |"),
+            Some((figure, _)) => format!(" {figure:.2} |"),
+        };
+        format!("| {} | {limits} |{}\n", self.what, LENGTHS.map(cell).concat())
+    }
+}
+
+fn is(m: &Measured, call: &str, on: &str) -> bool {
+    m.call == call && m.on == on
+}
+
+fn is_short(m: &Measured) -> bool {
+    m.on.ends_with("short output")
+}
+
+/// A whole call of the library, with all four versions timed.
+fn whole(m: &Measured) -> bool {
+    !m.of_rust().is_nan()
+}
+
+fn beside_the_strongest() -> Vec<Bar> {
+    vec![
+        Bar::strongest("pass", 1.15, |m| is(m, "pass", "accepted")),
+        Bar::strongest("find, rare root or S alone", 1.2, |m| is(m, "find", "rare root") || is(m, "find", "bare S")),
+        Bar::strongest("find, common root", 1.5, |m| is(m, "find", "common root")),
+        Bar::strongest("find, long fixed stretch", 1.5, |m| is(m, "find", "long fixed stretch")),
+        Bar::strongest("find, repeated variables", 1.5, |m| is(m, "find", "repeated variables")),
+        Bar::strongest("find on its slowest, repeated leaf", 1.5, |m| is(m, "find on its slowest", "repeated leaf")),
+        Bar::strongest("find on its slowest, fixed chain", 1.5, |m| is(m, "find on its slowest", "fixed chain")),
+        Bar::strongest("find on its slowest, chain over S", 1.5, |m| is(m, "find on its slowest", "chain over S")),
+        Bar::strongest("find, output shorter than the row", f64::INFINITY, |m| m.call == "find" && is_short(m)),
+        Bar::strongest("variables", 1.2, |m| m.call == "variables"),
+        Bar::strongest("plain matcher", 1.2, |m| m.call == "plain matcher"),
+        Bar::strongest("replace", 1.25, |m| m.call.starts_with("replace")),
+        Bar::strongest("build", f64::INFINITY, |m| is(m, "build", "accepted")),
+    ]
+}
+
+fn others() -> Vec<Bar> {
+    let grows: fn(&Measured) -> bool = |m| m.n >= 16384 - 8 && whole(m) && m.on != "repeated variables";
+    let yardstick: fn(&Measured) -> f64 = Measured::of_yardstick;
+    vec![
+        Bar::other("a whole call, of the Rust", 1.0, 4096, whole, Measured::of_rust),
+        Bar::other("a whole call, of the plain C", 1.15, 4096, whole, Measured::of_c),
+        Bar::other("find with a rare root, of a pass", 2.5, 4096, |m| is(m, "find", "rare root"), yardstick),
+        Bar::other("find with an output shorter than the row, of find with room", 1.15, 0, is_short, yardstick),
+        Bar::other("a stale table, of one that is accepted", 3.0, 4096, |m| m.on.contains("stale"), yardstick),
+        Bar::other("one replacement, of a build", 2.0, 4096, |m| m.call == "replace and back", |m| m.of_yardstick() / 2.0),
+        Bar::other("the whole row replaced, of a build", 2.0, 4096, |m| m.on == "whole row", yardstick),
+        Bar::other("pass with 1,024 symbols, of one with 17", 2.0, 0, |m| m.on.starts_with("alphabet"), yardstick),
+        Bar::other("time for each symbol, at 257 of that at 256", 1.2, 0, |m| m.n == 257 && whole(m) && !m.on.contains("fixed"), |m| m.growth),
+        Bar::other("time for each symbol, at 16,384 of that at 4,096", 1.25, 4096, grows, |m| m.growth),
+    ]
+}
+
+fn beside_the_inner_calls() -> Vec<Bar> {
+    vec![
+        Bar::exported("sparrowhem_build", 1.1, 1.1, |m| m.call == "sparrowhem_build"),
+        Bar::exported("sparrowhem_find, rare root", 1.3, 3.0, |m| is(m, "sparrowhem_find", "rare root")),
+        Bar::exported("sparrowhem_find, common root", 1.3, 3.0, |m| is(m, "sparrowhem_find", "common root")),
+        Bar::exported("sparrowhem_replace, same size", 1.3, 3.0, |m| is(m, "sparrowhem_replace", "same size in the middle")),
+        Bar::exported("sparrowhem_replace, grow and shrink", 1.3, 3.0, |m| is(m, "sparrowhem_replace", "grow and shrink in the middle")),
+    ]
+}
+
+fn table(what: &str, bars: &[Bar], all: &[Measured]) -> String {
+    let mut text = format!("| {what} | at most |");
+    LENGTHS.iter().for_each(|n| write!(text, " {n} |").unwrap());
+    text += &format!("\n|---|---|{}\n", "---|".repeat(LENGTHS.len()));
+    bars.iter().fold(text, |text, bar| text + &bar.line(all))
+}
+
+pub fn bars(all: &[Measured]) -> String {
+    table("of the strongest C", &beside_the_strongest(), all) + "\n" + &table("of other times", &others(), all)
+}
+
+pub fn exported(all: &[Measured]) -> String {
+    table("of the inner call", &beside_the_inner_calls(), all)
+}
+
+/// Each broken bar at each length, with the line that breaks it most.
+pub fn broken(all: &[Measured]) -> String {
+    let mut text = String::new();
+    for bar in beside_the_strongest().iter().chain(&others()).chain(&beside_the_inner_calls()) {
+        for n in LENGTHS {
+            if let Some((figure, m)) = bar.worst(all, n).filter(|&(figure, _)| bar.broken_by(figure, n)) {
+                writeln!(text, "over its bar: {} at {n}: {figure:.2}, at most {} ({}, {}, {})", bar.what, bar.limit(n), m.call, m.on, m.shape).unwrap();
+            }
+        }
+    }
     text
 }

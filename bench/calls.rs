@@ -1,4 +1,4 @@
-//! The calls, by the library, in plain Rust and in plain C.
+//! The calls, by the library, in plain Rust, in plain C and in the strongest C; and those that the library exports to C.
 
 use crate::baseline;
 
@@ -30,21 +30,51 @@ macro_rules! calls {
 calls! {
     timed_pass timed_build timed_find timed_variables timed_replace timed_plain_match
     c_pass c_build c_find c_variables c_replace c_plain_match
+    strong_pass strong_build strong_find strong_variables strong_replace strong_plain_match
+}
+
+/// What an exported function answers, as include/sparrowhem.h says.
+#[repr(C)]
+struct Exported {
+    refusal: u32,
+    change: i32,
+    place: u64,
+    count: u64,
+}
+
+impl Exported {
+    fn answer(self) -> Answer {
+        Answer { refusal: self.refusal as u64, change: self.change, place: self.place, count: self.count }
+    }
+}
+
+// A list crosses as bytes, the low one of each number first, which is how numbers lie here.
+#[cfg(target_endian = "little")]
+extern "C" {
+    fn sparrowhem_build(arities: *const u16, symbols: usize, row: *const u16, n: usize, table: *mut u16, room: usize) -> Exported;
+    fn sparrowhem_find(arities: *const u16, symbols: usize, row: *const u16, n: usize, table: *const u16, room: usize,
+        pattern: *const u16, m: usize, out: *mut u16, places: usize) -> Exported;
+    fn sparrowhem_replace(arities: *const u16, symbols: usize, row: *mut u16, row_room: usize, table: *mut u16, room: usize,
+        n: u64, replacement: *const u16, m: usize, position: u64) -> Exported;
 }
 
 fn list(xs: &[u16]) -> List {
     (xs.as_ptr(), xs.len())
 }
 
-/// Who answers: the library, plain Rust, plain C.
+/// Who answers: the library, plain Rust, plain C, the strongest C; or the library's exported function of that name.
 #[derive(Clone, Copy)]
 pub enum By {
     Library,
     Rust,
     C,
+    Strong,
+    Exported,
 }
 
-pub const ALL: [By; 3] = [By::Library, By::Rust, By::C];
+pub const ALL: [By; 4] = [By::Library, By::Rust, By::C, By::Strong];
+
+const NOT_EXPORTED: &str = "the library does not export this call";
 
 fn answered(r: Result<(u64, i32), baseline::Refusal>) -> Answer {
     match r {
@@ -60,6 +90,8 @@ pub fn pass(by: By, arities: &[u16], row: &[u16], table: &[u16]) -> Answer {
         By::Library => unsafe { timed_pass(a, k, w, n, t, m) },
         By::Rust => answered(baseline::check_given(arities, row, table).map(|()| (0, 0))),
         By::C => unsafe { c_pass(a, k, w, n, t, m) },
+        By::Strong => unsafe { strong_pass(a, k, w, n, t, m) },
+        By::Exported => unreachable!("{NOT_EXPORTED}"),
     }
 }
 
@@ -69,6 +101,8 @@ pub fn build(by: By, arities: &[u16], row: &[u16], table: &mut [u16]) -> Answer 
         By::Library => unsafe { timed_build(a, k, w, n, t, m) },
         By::Rust => answered(baseline::build(arities, row, table).map(|()| (row.len() as u64, 0))),
         By::C => unsafe { c_build(a, k, w, n, t, m) },
+        By::Strong => unsafe { strong_build(a, k, w, n, t, m) },
+        By::Exported => unsafe { sparrowhem_build(a, 2 * k, w, 2 * n, t, 2 * m).answer() },
     }
 }
 
@@ -78,6 +112,8 @@ pub fn find(by: By, arities: &[u16], row: &[u16], table: &[u16], pattern: &[u16]
         By::Library => unsafe { timed_find(a, k, w, n, t, m, q, l, o, p) },
         By::Rust => answered(baseline::find(arities, row, table, pattern, out).map(|c| (c as u64, 0))),
         By::C => unsafe { c_find(a, k, w, n, t, m, q, l, o, p) },
+        By::Strong => unsafe { strong_find(a, k, w, n, t, m, q, l, o, p) },
+        By::Exported => unsafe { sparrowhem_find(a, 2 * k, w, 2 * n, t, 2 * m, q, 2 * l, o, 2 * p).answer() },
     }
 }
 
@@ -87,6 +123,8 @@ pub fn variables(by: By, arities: &[u16], row: &[u16], table: &[u16], pattern: &
         By::Library => unsafe { timed_variables(a, k, w, n, t, m, q, l, position, o, p) },
         By::Rust => answered(baseline::variables(arities, row, table, pattern, position, out).map(|y| (y as u64, 0))),
         By::C => unsafe { c_variables(a, k, w, n, t, m, q, l, position, o, p) },
+        By::Strong => unsafe { strong_variables(a, k, w, n, t, m, q, l, position, o, p) },
+        By::Exported => unreachable!("{NOT_EXPORTED}"),
     }
 }
 
@@ -96,6 +134,8 @@ pub fn replace(by: By, arities: &[u16], row: &mut [u16], table: &mut [u16], n: u
         By::Library => unsafe { timed_replace(a, k, w, r, t, m, n, v, l, position) },
         By::Rust => answered(baseline::replace(arities, row, table, n, new, position).map(|(l, c)| (l as u64, c))),
         By::C => unsafe { c_replace(a, k, w, r, t, m, n, v, l, position) },
+        By::Strong => unsafe { strong_replace(a, k, w, r, t, m, n, v, l, position) },
+        By::Exported => unsafe { sparrowhem_replace(a, 2 * k, w, 2 * r, t, 2 * m, n as u64, v, 2 * l, position as u64).answer() },
     }
 }
 
@@ -105,5 +145,7 @@ pub fn plain_match(by: By, arities: &[u16], row: &[u16], pattern: &[u16], positi
         By::Library => unsafe { timed_plain_match(a, k, w, n, q, l, position) },
         By::Rust => answered(baseline::plain_match(arities, row, pattern, position).map(|y| (y as u64, 0))),
         By::C => unsafe { c_plain_match(a, k, w, n, q, l, position) },
+        By::Strong => unsafe { strong_plain_match(a, k, w, n, q, l, position) },
+        By::Exported => unreachable!("{NOT_EXPORTED}"),
     }
 }

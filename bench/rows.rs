@@ -66,6 +66,7 @@ fn row(shape: &str, n: usize, seed: u64) -> Vec<u16> {
             full_binary(&mut row, n);
             row
         }
+        "right comb" => grown(n, |_, open| if open < 2 { TWO } else { 0 }),
         "15-ary" => grown(n, |_, open| if open < 2 { FIFTEEN } else { 0 }),
         "random" => grown(n, |_, _| [0, 1, 0, ONE, TWO, THREE, 5][random.below(7)]),
         // both children of every symbol are the same, at each height
@@ -77,7 +78,10 @@ fn row(shape: &str, n: usize, seed: u64) -> Vec<u16> {
     }
 }
 
-pub const SHAPES: [&str; 6] = ["chain", "left comb", "full binary", "15-ary", "random", "equal subtrees"];
+/// The lengths that the calls are timed at: 257 beside 256, for a jump where a larger room is taken.
+pub const LENGTHS: [usize; 6] = [16, 256, 257, 1024, 4096, 16384];
+
+pub const SHAPES: [&str; 6] = ["left comb", "chain", "full binary", "15-ary", "random", "equal subtrees"];
 
 /// A row with its table.
 #[derive(Clone)]

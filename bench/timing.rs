@@ -5,42 +5,64 @@ use crate::rows::Rows;
 use std::hint::black_box;
 use std::time::Instant;
 
-fn median(mut xs: Vec<f64>) -> f64 {
+pub fn median(mut xs: Vec<f64>) -> f64 {
     xs.sort_by(f64::total_cmp);
     xs[xs.len() / 2]
 }
 
-/// What was measured: the call, what it was called on, the row's shape and length; nanoseconds of library, Rust and C; the library's
-/// time as a share of the Rust's, of the C's and of its own yardstick's (a pass or a build of the same rows); and its time for
-/// each symbol as a share of that at the length before, if there is one.
+/// The columns that are timed: library, Rust, C, strongest C, and the yardstick, a call of the library's own on the same rows.
+const COLUMNS: usize = 5;
+const YARDSTICK: usize = 4;
+
+/// What was measured: the call, what it was called on, the row's shape and length; nanoseconds in each column; the library's time
+/// as a share of each other column's; and its time for each symbol as a share of that at the length before. What was not
+/// timed is no number.
+#[derive(Clone)]
 pub struct Measured {
     pub call: String,
     pub on: String,
     pub shape: String,
     pub n: usize,
-    pub ns: [f64; 3],
-    pub of: [f64; 3],
+    pub ns: [f64; COLUMNS],
+    pub of: [f64; COLUMNS],
     pub growth: f64,
 }
 
 impl Measured {
+    pub const HEADER: &str = "call,on,row,length,library_ns,rust_ns,c_ns,strongest_c_ns,yardstick_ns,of_rust,of_c,of_strongest_c,of_yardstick,growth\n";
+
+    pub fn of_rust(&self) -> f64 {
+        self.of[By::Rust as usize]
+    }
+
+    pub fn of_c(&self) -> f64 {
+        self.of[By::C as usize]
+    }
+
+    pub fn of_strongest(&self) -> f64 {
+        self.of[By::Strong as usize]
+    }
+
+    pub fn of_yardstick(&self) -> f64 {
+        self.of[YARDSTICK]
+    }
+
     pub fn line(&self) -> String {
-        let ([a, b, c], [r, s, t], g) = (self.ns, self.of, self.growth);
-        format!("{}\t{}\t{}\t{}\t{a}\t{b}\t{c}\t{r}\t{s}\t{t}\t{g}\n", self.call, self.on, self.shape, self.n)
+        let number = |x: f64, places: usize| if x.is_nan() { String::new() } else { format!("{x:.places$}") };
+        let names = [&self.call, &self.on, &self.shape].map(String::clone);
+        let ns = self.ns.map(|x| number(x, 1));
+        let of = [1, 2, 3, YARDSTICK].map(|column| number(self.of[column], 3));
+        let words: Vec<String> = names.into_iter().chain([self.n.to_string()]).chain(ns).chain(of).chain([number(self.growth, 3)]).collect();
+        words.join(",") + "\n"
     }
 
     pub fn of_line(line: &str) -> Measured {
-        let words: Vec<&str> = line.trim_end().split('\t').collect();
-        let number = |k: usize| words[k].parse().expect("a number");
-        Measured {
-            call: words[0].to_string(),
-            on: words[1].to_string(),
-            shape: words[2].to_string(),
-            n: words[3].parse().expect("a length"),
-            ns: [4, 5, 6].map(number),
-            of: [7, 8, 9].map(number),
-            growth: number(10),
-        }
+        let words: Vec<&str> = line.split(',').collect();
+        let number = |k: usize| words[k].parse().unwrap_or(f64::NAN);
+        let [call, on, shape] = [0, 1, 2].map(|k| words[k].to_string());
+        let [r, c, s, y] = [9, 10, 11, 12].map(number);
+        let n = words[3].parse().expect("a length");
+        Measured { call, on, shape, n, ns: [4, 5, 6, 7, 8].map(number), of: [1.0, r, c, s, y], growth: number(13) }
     }
 }
 
@@ -48,8 +70,9 @@ impl Measured {
 pub fn medians(turns: &[Vec<Measured>]) -> Vec<Measured> {
     let one = |k: usize| {
         let over = |f: &dyn Fn(&Measured) -> f64| median(turns.iter().map(|turn| f(&turn[k])).collect());
-        let (ns, of) = ([0, 1, 2].map(|by| over(&|m| m.ns[by])), [0, 1, 2].map(|by| over(&|m| m.of[by])));
-        Measured { ns, of, growth: over(&|m| m.growth), ..Measured::of_line(&turns[0][k].line()) }
+        let column = |column: usize| (over(&|m| m.ns[column]), over(&|m| m.of[column]));
+        let columns = [0, 1, 2, 3, 4].map(column);
+        Measured { ns: columns.map(|c| c.0), of: columns.map(|c| c.1), growth: over(&|m| m.growth), ..turns[0][k].clone() }
     };
     (0..turns[0].len()).map(one).collect()
 }
@@ -63,48 +86,68 @@ fn timed(calls: std::ops::Range<usize>, mut call: impl FnMut(usize) -> Answer) -
     began.elapsed().as_nanos() as f64 / many as f64
 }
 
+/// How many rounds, and how many nanoseconds of calls in each; and what has been measured.
 pub struct Bench {
     pub rounds: usize,
+    pub batch: f64,
     pub measured: Vec<Measured>,
 }
 
 impl Bench {
-    /// Times a call by each of the three, and the yardstick, at each length. All of them are timed in every round, one after the
-    /// other, and each share is the median of the shares in the rounds: what slows the machine down for a while slows all.
-    /// A call is told who is called, which length, and how many calls there were.
+    /// Times a call by each of the four, and the yardstick, at each length. A call is told who is called, which length, and how many
+    /// calls there were.
     pub fn add(
         &mut self,
-        [call, on]: [&str; 2],
+        names: [&str; 2],
         rows: &Rows,
         mut f: impl FnMut(By, usize, usize) -> Answer,
         mut yardstick: impl FnMut(usize, usize) -> Answer,
     ) {
+        let call = |column, l, k| if column == YARDSTICK { yardstick(l, k) } else { f(black_box(ALL[column]), l, k) };
+        self.measure(names, rows, &[0, 1, 2, 3, YARDSTICK], call);
+    }
+
+    /// Times an exported function, in the library's column. The yardstick is the inner call.
+    pub fn exported(&mut self, names: [&str; 2], rows: &Rows, mut f: impl FnMut(By, usize, usize) -> Answer) {
+        let call = |column, l, k| f(black_box(if column == YARDSTICK { By::Library } else { By::Exported }), l, k);
+        self.measure(names, rows, &[0, YARDSTICK], call);
+    }
+
+    /// All columns are timed in every round, one after the other, and each share is the median of the shares in the rounds: what
+    /// slows the machine down for a while slows all. Whoever meets rows first brings them near for the others, so they are met
+    /// once before, and the columns take turns in going first.
+    fn measure(&mut self, names: [&str; 2], rows: &Rows, columns: &[usize], mut call: impl FnMut(usize, usize, usize) -> Answer) {
         let lengths = 0..rows.lengths.len();
-        let once: Vec<f64> = lengths.clone().map(|l| timed(0..1, |k| f(By::Library, l, k))).collect();
-        let mut times = vec![[(); 4].map(|()| Vec::new()); lengths.len()];
+        let mut once = |l| (0..3).map(|k| timed(0..2, |_| call(0, l, k))).fold(f64::INFINITY, f64::min);
+        let once: Vec<f64> = lengths.clone().map(&mut once).collect();
+        let mut times = vec![[(); COLUMNS].map(|()| vec![f64::NAN; self.rounds]); lengths.len()];
         for round in 0..self.rounds {
             for l in lengths.clone() {
-                let batch = (200_000.0 / once[l].max(50.0)).clamp(1.0, 4_000.0) as usize;
+                let batch = (self.batch / once[l].max(50.0)).clamp(1.0, 4_000.0) as usize;
                 let calls = round * batch..(round + 1) * batch;
-                let said = ALL.map(|by| f(by, l, calls.start));
-                assert!(said[0] == said[1] && said[0] == said[2], "{call}, {on}: the three do not agree: {said:?}");
-                for by in ALL {
-                    times[l][by as usize].push(timed(calls.clone(), |k| f(black_box(by), l, k)));
+                let said = call(0, l, calls.start);
+                timed(calls.clone(), |k| call(0, l, k));
+                for &column in columns.iter().cycle().skip(round % columns.len()).take(columns.len()) {
+                    let says = call(column, l, calls.start);
+                    assert!(column == YARDSTICK || says == said, "{names:?}: {says:?} and not {said:?}");
+                    times[l][column][round] = timed(calls.clone(), |k| call(column, l, k));
                 }
-                times[l][3].push(timed(calls, |k| yardstick(l, k)));
             }
         }
-        let share = |f: &dyn Fn(usize) -> f64| median((0..self.rounds).map(f).collect());
-        for (l, &n) in rows.lengths.iter().enumerate() {
-            let t = &times[l];
-            let ns = [0, 1, 2].map(|by| median(t[by].clone()));
-            let of = [1, 2, 3].map(|by| share(&|round| t[0][round] / t[by][round]));
-            let each = |l: usize, round: usize| times[l][0][round] / rows.lengths[l] as f64;
-            let growth = if l == 0 { f64::NAN } else { share(&|round| each(l, round) / each(l - 1, round)) };
-            let [r, c, y] = of;
-            eprintln!("{call}, {on}, {}, {n}: {:.0} ns, {r:.2} of Rust, {c:.2} of C, {y:.2} of the yardstick, growth {growth:.2}", rows.shape, ns[0]);
-            let [call, on, shape] = [call, on, rows.shape].map(str::to_string);
-            self.measured.push(Measured { call, on, shape, n, ns, of, growth });
+        for l in lengths {
+            self.tell(names, rows, l, &times);
         }
+    }
+
+    fn tell(&mut self, [call, on]: [&str; 2], rows: &Rows, l: usize, times: &[[Vec<f64>; COLUMNS]]) {
+        let share = |f: &dyn Fn(usize) -> f64| median((0..self.rounds).map(f).collect());
+        let each = |l: usize, round: usize| times[l][0][round] / rows.lengths[l] as f64;
+        let ns = times[l].clone().map(median);
+        let of = [0, 1, 2, 3, 4].map(|column| share(&|round| times[l][0][round] / times[l][column][round]));
+        let growth = if l == 0 { f64::NAN } else { share(&|round| each(l, round) / each(l - 1, round)) };
+        let [call, on, shape] = [call, on, rows.shape].map(str::to_string);
+        let measured = Measured { call, on, shape, n: rows.lengths[l], ns, of, growth };
+        eprint!("{}", measured.line());
+        self.measured.push(measured);
     }
 }

@@ -59,8 +59,10 @@
 **
 ** STACK
 **
-** sparrowhem_build needs under 33 KiB.  sparrowhem_find and sparrowhem_replace
-** work on copies on the stack, and need under 192 KiB and under 196 KiB.
+** sparrowhem_build needs under 36 KiB.  sparrowhem_find and sparrowhem_replace
+** work on copies on the stack.  Both need under 12 KiB where the row, and what
+** replaces a part of it, have at most 256 symbols each; for the longest row
+** find needs under 110 KiB, and replace under 145 KiB.
 */
 #ifndef SPARROWHEM_H
 #define SPARROWHEM_H

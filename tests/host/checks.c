@@ -318,11 +318,12 @@ static void replaces(void) {
 /* What a call takes of the stack: it runs on a painted one. */
 static uint8_t painted[1 << 19];
 static lent run_a, run_w, run_t, run_q, run_o;
+static size_t run_n;
 
 static void run_nothing(void) {}
 static void run_build(void) { build(run_a, run_w, run_t); }
 static void run_find(void) { find(run_a, run_w, run_t, run_q, run_o); }
-static void run_replace(void) { replace(run_a, run_w, run_t, BIG, run_o, 0); }
+static void run_replace(void) { replace(run_a, run_w, run_t, run_n, run_o, 0); }
 
 static size_t stack_of(void (*run)(void)) {
     uint8_t *top = painted + sizeof painted - 64;
@@ -340,18 +341,23 @@ static size_t stack_of(void (*run)(void)) {
     return (size_t)(top - (painted + low));
 }
 
-static void stacks(void) {
+static void check_stack(const char *call, void (*run)(void), size_t kib) {
+    size_t most = stack_of(run) - stack_of(run_nothing);
+    printf("stack: %s of %zu symbols %zu bytes\n", call, run_n, most);
+    check_that("a call takes no more stack than the header says", most < kib * 1024);
+}
+
+/* A chain of n symbols; find with S alone; replace of the whole row by one as long. */
+static void stacks(size_t n, size_t build_kib, size_t find_kib, size_t replace_kib) {
     static const unsigned any[] = {S};
     start();
-    run_a = lend(A, 5), run_w = lend(chain, BIG), run_t = lend(chain_ends, BIG), run_q = lend(any, 1), run_o = lend(zeros, BIG);
-    size_t empty = stack_of(run_nothing), b = stack_of(run_build), f = stack_of(run_find);
-    run_o.bytes = 2;
-    run_o.at[0] = run_o.at[1] = 0;
-    size_t r = stack_of(run_replace);
-    printf("stack: build %zu, find %zu, replace %zu bytes\n", b - empty, f - empty, r - empty);
-    check_that("build takes under 33 KiB of stack", b - empty < 33 * 1024);
-    check_that("find takes under 192 KiB of stack", f - empty < 192 * 1024);
-    check_that("replace takes under 196 KiB of stack", r - empty < 196 * 1024);
+    run_n = n;
+    run_a = lend(A, 5), run_w = lend(chain + BIG - n, n), run_t = lend(zeros, n), run_q = lend(any, 1), run_o = lend(zeros, n);
+    check_stack("build", run_build, build_kib);
+    check_stack("find", run_find, find_kib);
+    memcpy(run_o.at, run_w.at, run_w.bytes);
+    check_stack("replace", run_replace, replace_kib);
+    check_that("which answered", sparrowhem_get(run_t.at, n - 1) == n);
 }
 
 /* What the header itself defines. */
@@ -375,7 +381,9 @@ int main(void) {
     builds();
     finds();
     replaces();
-    stacks();
+    stacks(9, 36, 12, 12);
+    stacks(256, 36, 12, 12);
+    stacks(BIG, 36, 110, 145);
     printf("%u passed, %u failed\n", passed, failed);
     return failed != 0;
 }

@@ -1,30 +1,25 @@
 -- Inside: no public contract cites what stands in this file, and no reader has to believe it.
 -- Copies of lent numbers.
-use Prim.Native.Nat.{ℕ, _≤_, _<_}
+use Prim.Native.Nat.{ℕ, _+_, _≤_, min, max}
 use mathlib.Core.Path.{_≡_}
 use mathlib.Core.List.{List}
 use lib.ListN.{length, take}
-use Rattle.rows.specs.Limits.{alphabetMost, rowMost}
-use Rattle.rows.specs.declared.Refusal.{Refusal}
-use Rattle.rows.specs.declared.Check.{Check}
-use Rattle.rows.specs.declared.Check.the-variants.{Fine, Refused}
-use Rattle.c_lent.specs.Answer.{refused}
-use Rattle.c_lent.specs.declared.Answer.{Answer}
+use Rattle.rows.specs.Limits.{rowMost}
+use Rattle.rows.specs.Programme.{Programme}
 
--- what refusals 1 to 6 leave: an alphabet within its limit, and a row of n numbers in and beside lists of which the shortest
--- has `room` places
-pub record Copyable (A : List ℕ) (n room : ℕ) : Type 0 where
-  pub few : length A ≤ alphabetMost
-  pub some : 0 < n
-  pub most : n ≤ rowMost
-  pub fits : n ≤ room
+-- a row of at most so many numbers with a replacement in it is of fair length
+abbrev pub fair : ℕ
+fair = 1152
 
--- an array of `places` places that begins with the first n numbers of the list `v`
-pub record Copy (v : List ℕ) (n places : ℕ) (r : List ℕ) : Type 0 where
-  pub long : places ≡ length r
-  pub front : take n r ≡ take n v
+-- `w` and `t` begin with the first n numbers of the row and of its table
+pub record Copied (P : Programme) (n : ℕ) (w t : List ℕ) : Type 0 where
+  pub row : take n w ≡ take n (P .row)
+  pub table : take n t ≡ take n (P .table)
 
--- the first of a check and a refusal behind it, as it crosses
-abbrev pub refusedBy : Check → Refusal → Answer
-refusedBy Fine q = refused q
-refusedBy (Refused r) q = refused r
+-- rooms for a row of n numbers in and beside which one of m numbers is put: for the row and its table once it stands there, for the
+-- m numbers themselves, and for the ends of either
+pub record Rooms (n m : ℕ) (w t v room : List ℕ) : Type 0 where
+  pub row : min rowMost (n + m) ≤ length w
+  pub table : min rowMost (n + m) ≤ length t
+  pub replacement : min rowMost m ≤ length v
+  pub ends : min rowMost (max n m) ≤ length room

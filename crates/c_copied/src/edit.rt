@@ -1,67 +1,229 @@
 // Replace on copies of the lent numbers.
-ghost use Prim.Native.Nat.{_≤_};
+ghost use mathlib.Core.Path.{_≡_};
+ghost use Prim.Native.Nat.{_+_, _≤_, min, max};
 ghost use lib.ListN.{length};
-ghost use Rattle.rows.specs.Limits.{rowMost};
-ghost use Rattle.rows.specs.Programme.{alphabetOf, room};
+ghost use Rattle.rows.specs.Limits.{alphabetMost, rowMost};
+ghost use Rattle.rows.specs.Programme.{alphabetOf, room as places};
+ghost use Rattle.rows.specs.Refusals.{given};
+ghost use Rattle.rows.specs.declared.Check.the-variants.{Fine};
+ghost use Rattle.checks.specs.Checks.{replaceCheck};
 ghost use Rattle.wire.specs.Wire.{numbers};
-ghost use Rattle.c_copied.specs.Copies.{Copyable};
+ghost use Rattle.c_copied.specs.Copies.{fair, Copied, Rooms};
 ghost use Rattle.c_lent.specs.Lent.{lent, numbersOf};
 ghost use Rattle.c_lent.specs.Calls.{ReplacedBytes};
+ghost use Rattle.c_lent.specs.Reading.{sizesCheck};
 use c_lent::Answer;
 use rows::Check;
 use rows::Fault;
+use rows::Keeping;
 use rows::Refusal;
-use sparrowhem::Replaced;
 
-// The row's buffer and the table are copied, no further than the longest row goes, and written back.
+// Room for a row of fair length with a small replacement in it.
+const FAIR: usize = tables::FAIR + 128;
+
+fn fair_room() -> [u16; FAIR]
+    ensures { λ r. ⌜ fair ≡ length r ⌝ }
+{
+    [0u16; FAIR]
+}
+
+// The longer of two lengths.
+fn longer(a: usize, b: usize) -> usize
+    ensures { λ r. ⌜ r ≡ max a b ⌝ }
+{
+    if a < b { b } else { a }
+}
+
+// The replacement in the copies `w` and `t`, which begin with the row and its table. Their bytes are written back as far as one of
+// the two rows goes, the old one or the new.
+fn write_replaced(
+    arities: &[u16],
+    row: &mut [u8],
+    table: &mut [u8],
+    n: usize,
+    v: &[u16],
+    p: usize,
+    w: &mut [u16],
+    t: &mut [u16],
+    room: &mut [u16],
+) -> Answer
+    requires { ⌜ replaceCheck (alphabetOf (now arities)) (numbersOf (lent (now row) (now table))) n (now v) p ≡ Fine ⌝ }
+    requires { ⌜ Copied (numbersOf (lent (now row) (now table))) n (now w) (now t) × Rooms n (length (now v)) (now w) (now t) (now v) (now room) ⌝ }
+    ensures { λ r. ⌜ ReplacedBytes (alphabetOf (now (arities .entry))) (lent (now (row .entry)) (now (table .entry))) n (now (v .entry)) p r (lent (now (row .exit)) (now (table .exit))) ⌝ }
+{
+    let length = edits::replace_beside(arities, w, t, n, v, p, room);
+    let most = longer(n, length);
+    wire::encode(&w[..most], row);
+    wire::encode(&t[..most], table);
+    Answer {
+        refusal: 0,
+        change: edits::change(length, n),
+        place: 0,
+        count: length as u64,
+    }
+}
+
+// The replacement is copied to `v` and checked, once row and table are found right.
+fn replace_by(
+    arities: &[u16],
+    row: &mut [u8],
+    table: &mut [u8],
+    n: usize,
+    replacement: &[u8],
+    p: usize,
+    w: &mut [u16],
+    t: &mut [u16],
+    v: &mut [u16],
+    room: &mut [u16],
+) -> Answer
+    requires { ⌜ given (alphabetOf (now arities)) (numbersOf (lent (now row) (now table))) n ≡ Fine ⌝ }
+    requires { ⌜ Copied (numbersOf (lent (now row) (now table))) n (now w) (now t) × Rooms n (length (numbers (now replacement))) (now w) (now t) (now v) (now room) ⌝ }
+    ensures { λ r. ⌜ ReplacedBytes (alphabetOf (now (arities .entry))) (lent (now (row .entry)) (now (table .entry))) n (numbers (now (replacement .entry))) p r (lent (now (row .exit)) (now (table .exit))) ⌝ }
+{
+    let m = wire::count(replacement);
+    if rows::ROW_MOST < m {
+        return c_lent::refusal_of(Refusal::Replacement(Fault::Long(m)));
+    }
+    wire::decode(replacement, m, v);
+    let places = rows::shorter(wire::count(row), wire::count(table));
+    match checks::check_replacement(arities, t, n, &v[..m], p, places) {
+        Check::Refused(r) => c_lent::refusal_of(r),
+        Check::Fine => write_replaced(arities, row, table, n, &v[..m], p, w, t, room),
+    }
+}
+
+// The copies `w` and `t` begin with the row and its table, and are checked. `v` and `room` are for the replacement and what the call
+// keeps beside them.
 fn replace_in(
     arities: &[u16],
     row: &mut [u8],
     table: &mut [u8],
     n: usize,
-    replacement: &[u16],
-    position: usize,
+    replacement: &[u8],
+    p: usize,
+    w: &mut [u16],
+    t: &mut [u16],
+    v: &mut [u16],
+    room: &mut [u16],
 ) -> Answer
-    requires { ⌜ Copyable (now arities) n (room (numbersOf (lent (now row) (now table)))) ⌝ }
-    ensures { λ r. ⌜ ReplacedBytes (alphabetOf (now (arities .entry))) (lent (now (row .entry)) (now (table .entry))) n (now (replacement .entry)) position r (lent (now (row .exit)) (now (table .exit))) ⌝ }
+    requires { ⌜ sizesCheck (alphabetOf (now arities)) n (places (numbersOf (lent (now row) (now table)))) ≡ Fine ⌝ }
+    requires { ⌜ Copied (numbersOf (lent (now row) (now table))) n (now w) (now t) × Rooms n (length (numbers (now replacement))) (now w) (now t) (now v) (now room) ⌝ }
+    ensures { λ r. ⌜ ReplacedBytes (alphabetOf (now (arities .entry))) (lent (now (row .entry)) (now (table .entry))) n (numbers (now (replacement .entry))) p r (lent (now (row .exit)) (now (table .exit))) ⌝ }
 {
-    let k = rows::shorter(wire::count(row), rows::ROW_MOST);
-    let j = rows::shorter(wire::count(table), rows::ROW_MOST);
-    let mut w = crate::copies::row_of(row, k);
-    let mut t = crate::copies::row_of(table, j);
-    match sparrowhem::replace(arities, &mut w[..k], &mut t[..j], n, replacement, position) {
-        Replaced::Refused(r) => c_lent::refusal_of(r),
-        Replaced::Done(length, change) => {
-            wire::encode(&w[..k], row);
-            wire::encode(&t[..j], table);
-            Answer {
-                refusal: 0,
-                change,
-                place: 0,
-                count: length as u64,
-            }
-        }
+    match tables::check_beside(arities, &w[..n], &t[..n], room) {
+        Keeping::Unsound(k) => c_lent::refusal_of(Refusal::Row(k)),
+        Keeping::Sound => replace_by(arities, row, table, n, replacement, p, w, t, v, room),
     }
 }
 
-// Alphabet and replacement are copied.
-fn replace_copied(
+// Rooms for a row that is of fair length with the replacement in it, or for any.
+fn replace_long(
+    arities: &[u16],
+    row: &mut [u8],
+    table: &mut [u8],
+    n: usize,
+    replacement: &[u8],
+    p: usize,
+) -> Answer
+    requires { ⌜ sizesCheck (alphabetOf (now arities)) n (places (numbersOf (lent (now row) (now table)))) ≡ Fine ⌝ }
+    ensures { λ r. ⌜ ReplacedBytes (alphabetOf (now (arities .entry))) (lent (now (row .entry)) (now (table .entry))) n (numbers (now (replacement .entry))) p r (lent (now (row .exit)) (now (table .exit))) ⌝ }
+{
+    let m = rows::shorter(wire::count(replacement), rows::ROW_MOST);
+    if n + m <= FAIR {
+        let mut w = fair_room();
+        let mut t = fair_room();
+        let mut v = fair_room();
+        let mut room = fair_room();
+        crate::copies::copy_kept(row, table, n, &mut w, &mut t);
+        return replace_in(
+            arities,
+            row,
+            table,
+            n,
+            replacement,
+            p,
+            &mut w,
+            &mut t,
+            &mut v,
+            &mut room,
+        );
+    }
+    let mut w = tables::long_room();
+    let mut t = tables::long_room();
+    let mut v = tables::long_room();
+    let mut room = tables::long_room();
+    crate::copies::copy_kept(row, table, n, &mut w, &mut t);
+    replace_in(
+        arities,
+        row,
+        table,
+        n,
+        replacement,
+        p,
+        &mut w,
+        &mut t,
+        &mut v,
+        &mut room,
+    )
+}
+
+// Rooms for a row that is short with the replacement in it. A replacement over its limit is refused in any room.
+fn replace_sized(
+    arities: &[u16],
+    row: &mut [u8],
+    table: &mut [u8],
+    n: usize,
+    replacement: &[u8],
+    p: usize,
+) -> Answer
+    requires { ⌜ sizesCheck (alphabetOf (now arities)) n (places (numbersOf (lent (now row) (now table)))) ≡ Fine ⌝ }
+    ensures { λ r. ⌜ ReplacedBytes (alphabetOf (now (arities .entry))) (lent (now (row .entry)) (now (table .entry))) n (numbers (now (replacement .entry))) p r (lent (now (row .exit)) (now (table .exit))) ⌝ }
+{
+    let m = wire::count(replacement);
+    if rows::ROW_MOST < m {
+        return replace_long(arities, row, table, n, replacement, p);
+    }
+    if tables::SHORT < n + m {
+        return replace_long(arities, row, table, n, replacement, p);
+    }
+    let mut w = tables::short_room();
+    let mut t = tables::short_room();
+    let mut v = tables::short_room();
+    let mut room = tables::short_room();
+    crate::copies::copy_kept(row, table, n, &mut w, &mut t);
+    replace_in(
+        arities,
+        row,
+        table,
+        n,
+        replacement,
+        p,
+        &mut w,
+        &mut t,
+        &mut v,
+        &mut room,
+    )
+}
+
+// The alphabet is read to `a`, a room that is lent for it.
+fn replace_under(
     arities: &[u8],
     row: &mut [u8],
     table: &mut [u8],
     n: usize,
     replacement: &[u8],
-    position: usize,
+    p: usize,
+    a: &mut [u16],
 ) -> Answer
-    requires { ⌜ Copyable (numbers (now arities)) n (room (numbersOf (lent (now row) (now table)))) ⌝ }
-    requires { ⌜ length (numbers (now replacement)) ≤ rowMost ⌝ }
-    ensures { λ r. ⌜ ReplacedBytes (alphabetOf (numbers (now (arities .entry)))) (lent (now (row .entry)) (now (table .entry))) n (numbers (now (replacement .entry))) position r (lent (now (row .exit)) (now (table .exit))) ⌝ }
+    requires { ⌜ min alphabetMost (length (numbers (now arities))) ≤ length (now a) ⌝ }
+    ensures { λ r. ⌜ ReplacedBytes (alphabetOf (numbers (now (arities .entry)))) (lent (now (row .entry)) (now (table .entry))) n (numbers (now (replacement .entry))) p r (lent (now (row .exit)) (now (table .exit))) ⌝ }
 {
     let k = wire::count(arities);
-    let m = wire::count(replacement);
-    let a = crate::copies::alphabet_of(arities, k);
-    let v = crate::copies::row_of(replacement, m);
-    replace_in(&a[..k], row, table, n, &v[..m], position)
+    let places = rows::shorter(wire::count(row), wire::count(table));
+    match c_lent::read_sizes(arities, a, n, places) {
+        Check::Refused(r) => c_lent::refusal_of(r),
+        Check::Fine => replace_sized(&a[..k], row, table, n, replacement, p),
+    }
 }
 
 // Replace: row and table with the subtree at the position replaced, both in place; or the first refusal, which writes
@@ -76,16 +238,10 @@ pub fn replace(
 ) -> Answer
     ensures { λ r. ⌜ ReplacedBytes (alphabetOf (numbers (now (arities .entry)))) (lent (now (row .entry)) (now (table .entry))) n (numbers (now (replacement .entry))) position r (lent (now (row .exit)) (now (table .exit))) ⌝ }
 {
-    let room = rows::shorter(wire::count(row), wire::count(table));
-    match c_lent::check_sizes(arities, n, room) {
-        Check::Refused(r) => c_lent::refusal_of(r),
-        Check::Fine => {
-            let m = wire::count(replacement);
-            if rows::ROW_MOST < m {
-                let kept = crate::copies::check_kept(arities, row, table, n);
-                return crate::copies::refused_by(kept, Refusal::Replacement(Fault::Long(m)));
-            }
-            replace_copied(arities, row, table, n, replacement, position)
-        }
+    if wire::count(arities) <= c_lent::SMALL {
+        let mut a = c_lent::small_room();
+        return replace_under(arities, row, table, n, replacement, position, &mut a);
     }
+    let mut a = c_lent::alphabet_room();
+    replace_under(arities, row, table, n, replacement, position, &mut a)
 }

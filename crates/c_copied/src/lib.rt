@@ -1,4 +1,4 @@
-// Find and replace on lent bytes, by copies of their numbers.
+// Find and replace on lent bytes, by copies of their numbers in rooms that are made for the row's size.
 mod copies;
 mod edit;
 mod search;

@@ -1,53 +1,178 @@
 // Find on copies of the lent numbers.
-ghost use Prim.Native.Nat.{_≤_};
+ghost use mathlib.Core.Path.{_≡_};
+ghost use Prim.Native.Nat.{_≤_, min};
 ghost use lib.ListN.{length};
-ghost use Rattle.rows.specs.Limits.{patternMost, rowMost};
-ghost use Rattle.rows.specs.Programme.{alphabetOf, programme, room};
+ghost use Rattle.rows.specs.Limits.{alphabetMost, patternMost};
+ghost use Rattle.rows.specs.Programme.{Alphabet, alphabetOf, programme, room as places};
+ghost use Rattle.rows.specs.Refusals.{given};
+ghost use Rattle.rows.specs.declared.Check.the-variants.{Fine};
+ghost use Rattle.patterns.specs.Searchable.{Searchable};
+ghost use Rattle.checks.specs.Checks.{searchCheck};
 ghost use Rattle.wire.specs.Wire.{numbers};
-ghost use Rattle.c_copied.specs.Copies.{Copyable};
+ghost use Rattle.c_copied.specs.Copies.{Copied};
 ghost use Rattle.c_lent.specs.Lent.{lent, numbersOf};
 ghost use Rattle.c_lent.specs.Calls.{FoundBytes};
+ghost use Rattle.c_lent.specs.Reading.{sizesCheck};
 use c_lent::Answer;
 use rows::Check;
 use rows::Fault;
+use rows::Keeping;
 use rows::Refusal;
-use sparrowhem::Found;
 
-// The matches are listed beside the output, and written to it.
-fn find_out(arities: &[u16], row: &[u16], table: &[u16], pattern: &[u16], out: &mut [u8]) -> Answer
-    requires { ⌜ length (now row) ≤ rowMost ⌝ }
-    ensures { λ r. ⌜ FoundBytes (alphabetOf (now (arities .entry))) (programme (now (row .entry)) (now (table .entry))) (now (pattern .entry)) (now (out .entry)) r (now (out .exit)) ⌝ }
+// Room for the longest pattern.
+fn pattern_room() -> [u16; rows::PATTERN_MOST]
+    ensures { λ r. ⌜ patternMost ≡ length r ⌝ }
 {
-    let k = rows::shorter(wire::count(out), rows::ROW_MOST);
-    let mut positions = tables::long_room();
-    match sparrowhem::find(arities, row, table, pattern, &mut positions[..k]) {
-        Found::Refused(r) => c_lent::refusal_of(r),
-        Found::Matches(count) => {
-            wire::encode(&positions[..count], out);
-            Answer {
-                refusal: 0,
-                change: 0,
-                place: 0,
-                count: count as u64,
-            }
-        }
+    [0u16; rows::PATTERN_MOST]
+}
+
+// The matches are gathered in `room`, and their bytes written to `out` if it has room for them.
+fn write_found(
+    row: &[u16],
+    table: &[u16],
+    pattern: &[u16],
+    room: &mut [u16],
+    out: &mut [u8],
+) -> Answer
+    requires { ⌜ Searchable (programme (now row) (now table)) (now pattern) × (length (now row) ≤ length (now room)) ⌝ }
+    ensures { λ r. ⌜ ((a : Alphabet) → searchCheck a (programme (now (row .entry)) (now (table .entry))) (now (pattern .entry)) ≡ Fine → FoundBytes a (programme (now (row .entry)) (now (table .entry))) (now (pattern .entry)) (now (out .entry)) r (now (out .exit))) ⌝ }
+{
+    let count = searches::write_matches(row, table, pattern, room);
+    if wire::count(out) < count {
+        return c_lent::refusal_of(Refusal::OutputShort(count));
+    }
+    wire::encode(&room[..count], out);
+    Answer {
+        refusal: 0,
+        change: 0,
+        place: 0,
+        count: count as u64,
     }
 }
 
-// Alphabet, row, table and pattern are copied.
-fn find_copied(arities: &[u8], row: &[u8], table: &[u8], pattern: &[u8], out: &mut [u8]) -> Answer
-    requires { ⌜ Copyable (numbers (now arities)) (length (numbers (now row))) (room (numbersOf (lent (now row) (now table)))) ⌝ }
-    requires { ⌜ length (numbers (now pattern)) ≤ patternMost ⌝ }
+// The pattern is copied to `q` and checked, once row and table are found right.
+fn find_pattern(
+    arities: &[u16],
+    row: &[u16],
+    table: &[u16],
+    pattern: &[u8],
+    q: &mut [u16],
+    room: &mut [u16],
+    out: &mut [u8],
+) -> Answer
+    requires { ⌜ (given (alphabetOf (now arities)) (programme (now row) (now table)) (length (now row)) ≡ Fine) × (length (now row) ≤ length (now room)) × (patternMost ≤ length (now q)) ⌝ }
+    ensures { λ r. ⌜ FoundBytes (alphabetOf (now (arities .entry))) (programme (now (row .entry)) (now (table .entry))) (numbers (now (pattern .entry))) (now (out .entry)) r (now (out .exit)) ⌝ }
+{
+    let m = wire::count(pattern);
+    if rows::PATTERN_MOST < m {
+        return c_lent::refusal_of(Refusal::Pattern(Fault::Long(m)));
+    }
+    wire::decode(pattern, m, q);
+    match patterns::check_pattern(arities, &q[..m]) {
+        Check::Refused(r) => c_lent::refusal_of(r),
+        Check::Fine => write_found(row, table, &q[..m], room, out),
+    }
+}
+
+// Row and table, within the sizes, are checked.
+fn find_copied(
+    arities: &[u16],
+    row: &[u16],
+    table: &[u16],
+    pattern: &[u8],
+    q: &mut [u16],
+    room: &mut [u16],
+    out: &mut [u8],
+) -> Answer
+    requires { ⌜ (sizesCheck (alphabetOf (now arities)) (length (now row)) (places (programme (now row) (now table))) ≡ Fine) × (length (now row) ≤ length (now room)) × (patternMost ≤ length (now q)) ⌝ }
+    ensures { λ r. ⌜ FoundBytes (alphabetOf (now (arities .entry))) (programme (now (row .entry)) (now (table .entry))) (numbers (now (pattern .entry))) (now (out .entry)) r (now (out .exit)) ⌝ }
+{
+    match tables::check_beside(arities, row, table, room) {
+        Keeping::Unsound(k) => c_lent::refusal_of(Refusal::Row(k)),
+        Keeping::Sound => find_pattern(arities, row, table, pattern, q, room, out),
+    }
+}
+
+// The copies `w` and `t` begin with the row and its table. `q` and `room` are for the pattern and what the call keeps beside them.
+fn find_in(
+    arities: &[u16],
+    row: &[u8],
+    table: &[u8],
+    pattern: &[u8],
+    out: &mut [u8],
+    w: &[u16],
+    t: &[u16],
+    q: &mut [u16],
+    room: &mut [u16],
+) -> Answer
+    requires { ⌜ sizesCheck (alphabetOf (now arities)) (length (numbers (now row))) (places (numbersOf (lent (now row) (now table)))) ≡ Fine ⌝ }
+    requires { ⌜ Copied (numbersOf (lent (now row) (now table))) (length (numbers (now row))) (now w) (now t) × (length (numbers (now row)) ≤ length (now room)) × (patternMost ≤ length (now q)) ⌝ }
+    ensures { λ r. ⌜ FoundBytes (alphabetOf (now (arities .entry))) (numbersOf (lent (now (row .entry)) (now (table .entry)))) (numbers (now (pattern .entry))) (now (out .entry)) r (now (out .exit)) ⌝ }
+{
+    let n = wire::count(row);
+    find_copied(arities, &w[..n], &t[..n], pattern, q, room, out)
+}
+
+// Rooms for a row of fair length, or of any.
+fn find_long(arities: &[u16], row: &[u8], table: &[u8], pattern: &[u8], out: &mut [u8]) -> Answer
+    requires { ⌜ sizesCheck (alphabetOf (now arities)) (length (numbers (now row))) (places (numbersOf (lent (now row) (now table)))) ≡ Fine ⌝ }
+    ensures { λ r. ⌜ FoundBytes (alphabetOf (now (arities .entry))) (numbersOf (lent (now (row .entry)) (now (table .entry)))) (numbers (now (pattern .entry))) (now (out .entry)) r (now (out .exit)) ⌝ }
+{
+    if wire::count(row) <= tables::FAIR {
+        let mut w = tables::fair_room();
+        let mut t = tables::fair_room();
+        let mut q = pattern_room();
+        let mut room = tables::fair_room();
+        crate::copies::copy_kept(row, table, wire::count(row), &mut w, &mut t);
+        return find_in(arities, row, table, pattern, out, &w, &t, &mut q, &mut room);
+    }
+    let mut w = tables::long_room();
+    let mut t = tables::long_room();
+    let mut q = pattern_room();
+    let mut room = tables::long_room();
+    crate::copies::copy_kept(row, table, wire::count(row), &mut w, &mut t);
+    find_in(arities, row, table, pattern, out, &w, &t, &mut q, &mut room)
+}
+
+// Rooms for a short row. A pattern over its limit is refused in any room: with that, the function that makes larger rooms is called
+// from two places, and the compiler keeps its rooms out of the stack of a call on a short row.
+fn find_sized(arities: &[u16], row: &[u8], table: &[u8], pattern: &[u8], out: &mut [u8]) -> Answer
+    requires { ⌜ sizesCheck (alphabetOf (now arities)) (length (numbers (now row))) (places (numbersOf (lent (now row) (now table)))) ≡ Fine ⌝ }
+    ensures { λ r. ⌜ FoundBytes (alphabetOf (now (arities .entry))) (numbersOf (lent (now (row .entry)) (now (table .entry)))) (numbers (now (pattern .entry))) (now (out .entry)) r (now (out .exit)) ⌝ }
+{
+    if rows::PATTERN_MOST < wire::count(pattern) {
+        return find_long(arities, row, table, pattern, out);
+    }
+    if tables::SHORT < wire::count(row) {
+        return find_long(arities, row, table, pattern, out);
+    }
+    let mut w = tables::short_room();
+    let mut t = tables::short_room();
+    let mut q = pattern_room();
+    let mut room = tables::short_room();
+    crate::copies::copy_kept(row, table, wire::count(row), &mut w, &mut t);
+    find_in(arities, row, table, pattern, out, &w, &t, &mut q, &mut room)
+}
+
+// The alphabet is read to `a`, a room that is lent for it.
+fn find_under(
+    arities: &[u8],
+    row: &[u8],
+    table: &[u8],
+    pattern: &[u8],
+    out: &mut [u8],
+    a: &mut [u16],
+) -> Answer
+    requires { ⌜ min alphabetMost (length (numbers (now arities))) ≤ length (now a) ⌝ }
     ensures { λ r. ⌜ FoundBytes (alphabetOf (numbers (now (arities .entry)))) (numbersOf (lent (now (row .entry)) (now (table .entry)))) (numbers (now (pattern .entry))) (now (out .entry)) r (now (out .exit)) ⌝ }
 {
     let k = wire::count(arities);
     let n = wire::count(row);
-    let m = wire::count(pattern);
-    let a = crate::copies::alphabet_of(arities, k);
-    let w = crate::copies::row_of(row, n);
-    let t = crate::copies::row_of(table, n);
-    let q = crate::copies::pattern_of(pattern, m);
-    find_out(&a[..k], &w[..n], &t[..n], &q[..m], out)
+    let places = rows::shorter(n, wire::count(table));
+    match c_lent::read_sizes(arities, a, n, places) {
+        Check::Refused(r) => c_lent::refusal_of(r),
+        Check::Fine => find_sized(&a[..k], row, table, pattern, out),
+    }
 }
 
 // Find: the bytes of the matches' positions at the front of `out`, later bytes stay; or the first refusal, which writes nothing.
@@ -55,17 +180,10 @@ fn find_copied(arities: &[u8], row: &[u8], table: &[u8], pattern: &[u8], out: &m
 pub fn find(arities: &[u8], row: &[u8], table: &[u8], pattern: &[u8], out: &mut [u8]) -> Answer
     ensures { λ r. ⌜ FoundBytes (alphabetOf (numbers (now (arities .entry)))) (numbersOf (lent (now (row .entry)) (now (table .entry)))) (numbers (now (pattern .entry))) (now (out .entry)) r (now (out .exit)) ⌝ }
 {
-    let n = wire::count(row);
-    let room = rows::shorter(n, wire::count(table));
-    match c_lent::check_sizes(arities, n, room) {
-        Check::Refused(r) => c_lent::refusal_of(r),
-        Check::Fine => {
-            let m = wire::count(pattern);
-            if rows::PATTERN_MOST < m {
-                let kept = crate::copies::check_kept(arities, row, table, n);
-                return crate::copies::refused_by(kept, Refusal::Pattern(Fault::Long(m)));
-            }
-            find_copied(arities, row, table, pattern, out)
-        }
+    if wire::count(arities) <= c_lent::SMALL {
+        let mut a = c_lent::small_room();
+        return find_under(arities, row, table, pattern, out, &mut a);
     }
+    let mut a = c_lent::alphabet_room();
+    find_under(arities, row, table, pattern, out, &mut a)
 }

@@ -1,3 +1,4 @@
 pub mod Answer
 pub mod Lent
 pub mod Calls
+pub mod Reading

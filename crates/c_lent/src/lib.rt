@@ -1,14 +1,18 @@
-// Numbers in lent bytes: how answers cross, the checks of an alphabet and a row, and build, all on the bytes themselves. Build
-// keeps at most 32 KiB beside them.
+// Numbers in lent bytes: how answers cross, the alphabet, which is read once, and build, on the bytes of row and table
+// themselves.
 ghost use mathlib.Core.Path.{_≡_};
 ghost use Rattle.c_lent.specs.Answer.{refused};
 use rows::Refusal;
 
+mod alphabet;
 mod fill;
 mod scan;
 mod table;
 
-pub use scan::check_sizes;
+pub use alphabet::SMALL;
+pub use alphabet::alphabet_room;
+pub use alphabet::read_sizes;
+pub use alphabet::small_room;
 pub use table::build;
 
 // An answer, as it crosses. `refusal` is 0 or the number of the refusal (docs/SCOPE.md).

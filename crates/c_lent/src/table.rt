@@ -1,9 +1,15 @@
-// Build on lent bytes. Beside them it keeps the ends of the trees that stand side by side, in at most 32 KiB of stack.
+// Build on lent bytes. Beside them it keeps the alphabet, and the ends of the trees that stand side by side.
 ghost use mathlib.Core.Path.{_≡_};
-ghost use Rattle.rows.specs.Programme.{alphabetOf};
+ghost use Prim.Native.Nat.{_≤_, min};
+ghost use lib.ListN.{length};
+ghost use Rattle.rows.specs.Limits.{alphabetMost, rowMost};
+ghost use Rattle.rows.specs.Programme.{alphabetOf, room};
+ghost use Rattle.rows.specs.Refusals.{symbols};
+ghost use Rattle.rows.specs.declared.Refusal.the-variants.{Row};
+ghost use Rattle.rows.specs.declared.Check.the-variants.{Fine};
 ghost use Rattle.wire.specs.Wire.{numbers};
-ghost use Rattle.checks.specs.Checks.{buildCheck};
 ghost use Rattle.c_lent.specs.Lent.{lent, numbersOf};
+ghost use Rattle.c_lent.specs.Reading.{sizesCheck};
 ghost use Rattle.c_lent.specs.Calls.{BuiltBytes};
 use crate::Answer;
 use rows::Check;
@@ -11,27 +17,23 @@ use rows::Kept;
 use rows::Refusal;
 use rows::Verdict;
 
-// Refusals 1 to 9. The table is not read.
-fn check_build(arities: &[u8], row: &[u8], table: &[u8]) -> Check
-    ensures { λ r. ⌜ r ≡ buildCheck (alphabetOf (numbers (now (arities .entry)))) (numbersOf (lent (now (row .entry)) (now (table .entry)))) ⌝ }
+// Refusals 7 to 9.
+fn check_symbols(arities: &[u16], row: &[u8]) -> Check
+    requires { ⌜ length (numbers (now row)) ≤ rowMost ⌝ }
+    ensures { λ r. ⌜ r ≡ symbols Row (now (arities .entry)) (numbers (now (row .entry))) ⌝ }
 {
-    let n = wire::count(row);
-    let room = rows::shorter(n, wire::count(table));
-    let sizes = crate::scan::check_sizes(arities, n, room);
-    let Check::Fine = sizes else {
-        return sizes;
-    };
     match crate::scan::check_row(arities, row) {
         Verdict::Faulty(f) => Check::Refused(Refusal::Row(Kept::Misread(f))),
         Verdict::Whole => Check::Fine,
     }
 }
 
-// Build: the bytes of the row's table at the front of `table`, later bytes stay; or the first refusal, which writes nothing.
-pub fn build(arities: &[u8], row: &[u8], table: &mut [u8]) -> Answer
-    ensures { λ r. ⌜ BuiltBytes (alphabetOf (numbers (now (arities .entry)))) (lent (now (row .entry)) (now (table .entry))) r (lent (now (row .entry)) (now (table .exit))) ⌝ }
+// Build under an alphabet and sizes that are accepted.
+fn build_under(arities: &[u16], row: &[u8], table: &mut [u8]) -> Answer
+    requires { ⌜ sizesCheck (alphabetOf (now arities)) (length (numbers (now row))) (room (numbersOf (lent (now row) (now table)))) ≡ Fine ⌝ }
+    ensures { λ r. ⌜ BuiltBytes (alphabetOf (now (arities .entry))) (lent (now (row .entry)) (now (table .entry))) r (lent (now (row .entry)) (now (table .exit))) ⌝ }
 {
-    match check_build(arities, row, table) {
+    match check_symbols(arities, row) {
         Check::Refused(r) => crate::refusal_of(r),
         Check::Fine => {
             crate::fill::fill_table(arities, row, table);
@@ -43,4 +45,30 @@ pub fn build(arities: &[u8], row: &[u8], table: &mut [u8]) -> Answer
             }
         }
     }
+}
+
+// The alphabet is read to `a`, a room that is lent for it.
+fn build_in(arities: &[u8], row: &[u8], table: &mut [u8], a: &mut [u16]) -> Answer
+    requires { ⌜ min alphabetMost (length (numbers (now arities))) ≤ length (now a) ⌝ }
+    ensures { λ r. ⌜ BuiltBytes (alphabetOf (numbers (now (arities .entry)))) (lent (now (row .entry)) (now (table .entry))) r (lent (now (row .entry)) (now (table .exit))) ⌝ }
+{
+    let k = wire::count(arities);
+    let n = wire::count(row);
+    let places = rows::shorter(n, wire::count(table));
+    match crate::alphabet::read_sizes(arities, a, n, places) {
+        Check::Refused(r) => crate::refusal_of(r),
+        Check::Fine => build_under(&a[..k], row, table),
+    }
+}
+
+// Build: the bytes of the row's table at the front of `table`, later bytes stay; or the first refusal, which writes nothing.
+pub fn build(arities: &[u8], row: &[u8], table: &mut [u8]) -> Answer
+    ensures { λ r. ⌜ BuiltBytes (alphabetOf (numbers (now (arities .entry)))) (lent (now (row .entry)) (now (table .entry))) r (lent (now (row .entry)) (now (table .exit))) ⌝ }
+{
+    if wire::count(arities) <= crate::alphabet::SMALL {
+        let mut a = crate::alphabet::small_room();
+        return build_in(arities, row, table, &mut a);
+    }
+    let mut a = crate::alphabet::alphabet_room();
+    build_in(arities, row, table, &mut a)
 }

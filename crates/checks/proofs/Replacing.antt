@@ -1,7 +1,7 @@
 -- What a replacement that refuses nothing has found.
 -- Assumes nothing.
 use Prim.Native.Nat.{ℕ, _+_, _-_, _≤_, _<_, min}
-use mathlib.Core.Path.{_≡_, sym, ap, _∙_}
+use mathlib.Core.Path.{_≡_, refl, sym, ap, _∙_}
 use mathlib.Core.List.{List}
 use native.Mathlib.Omega.{arith}
 use borrow.Author.Tests.{le-ltb}
@@ -16,7 +16,7 @@ use Rattle.rows.specs.Refusals.{_then_, alphabet, kept, given, replacement, pos
 use Rattle.rows.specs.declared.Leaves.the-variants.{Symbols}
 use Rattle.rows.specs.declared.Refusal.the-variants.{Row}
 use Rattle.rows.specs.declared.Check.{Check}
-use Rattle.rows.specs.declared.Check.the-variants.{Fine}
+use Rattle.rows.specs.declared.Check.the-variants.{Fine, Refused}
 use Rattle.rows.proofs.Scan.{sized-fits}
 use Rattle.rows.proofs.Passing.{both-fine, position-fine, replacement-whole, below}
 use Rattle.tables.proofs.Given.{Held, kept-right, right-bounds}
@@ -40,7 +40,7 @@ replacement-fine A v e =
     (sized-fits (length v) rowMost (whole .0) .1, whole .1)
 
 -- refusals 17 and 18, told by the table's entry at the position
-pub place-check : (a : Alphabet) (P : Programme) (n : ℕ) (v : List ℕ) (p room : ℕ) → Held a P n → Accepted (a .arities) v
+place-check : (a : Alphabet) (P : Programme) (n : ℕ) (v : List ℕ) (p room : ℕ) → Held a P n → Accepted (a .arities) v
     → position n p then grown (p + length v + (n - getD (P .table) p 0)) room
     ≡ position n p then grown (size (changed (a .arities) (take n (P .row)) p v)) room
 place-check a P n v p room h accepted =
@@ -51,6 +51,20 @@ place-check a P n v p room h accepted =
     ap (λ (m : ℕ). position n p then grown m room)
     (sym (new-length (a .arities) w (P .table) v p (h .right) accepted (omega arith) ∙ ap (λ (k : ℕ). p + length v + (k - getD (P .table) p 0)) l)))
     (λ i. position-past n p (grown (p + length v + (n - getD (P .table) p 0)) room) i ∙ sym (position-past n p (grown (size (changed (a .arities) w p v)) room) i))
+
+-- and behind the replacement's own
+pub place-behind : (a : Alphabet) (P : Programme) (n : ℕ) (v : List ℕ) (p room : ℕ) → Held a P n
+    → replacement (a .arities) v then position n p then grown (p + length v + (n - getD (P .table) p 0)) room
+    ≡ replacement (a .arities) v then position n p then grown (size (changed (a .arities) (take n (P .row)) p v)) room
+place-behind a P n v p room h = go (replacement (a .arities) v) refl
+  where
+    told : ℕ → Check
+    told m = position n p then grown m room
+
+    go : (c : Check) → replacement (a .arities) v ≡ c
+        → c then told (p + length v + (n - getD (P .table) p 0)) ≡ c then told (size (changed (a .arities) (take n (P .row)) p v))
+    go Fine e = place-check a P n v p room h (replacement-fine (a .arities) v e .1)
+    go (Refused r) e = refl
 
 pub held-end : (a : Alphabet) (P : Programme) (n p : ℕ) → Held a P n → p < n → getD (P .table) p 0 ≤ n
 held-end a P n p h i =
@@ -86,6 +100,13 @@ replace-able a P n v p e =
       row-room = omega arith;
       table-room = omega arith;
     }
+
+pub replace-short : (a : Alphabet) (P : Programme) (n : ℕ) (v : List ℕ) (p : ℕ) → replaceCheck a P n v p ≡ Fine → length v ≤ rowMost
+unfolding replaceCheck
+replace-short a P n v p e =
+    let g : Check = position n p then grown (size (changed (a .arities) (take n (P .row)) p v)) (room P) in
+    let x = both-fine (given a P n) (replacement (a .arities) v then g) e .1 in
+    replacement-fine (a .arities) v (both-fine (replacement (a .arities) v) g x .0) .0
 
 -- the old row and the new one are within the sizes
 pub able-sizes : (A row t : List ℕ) (n : ℕ) (v : List ℕ) (p m : ℕ) → Replaceable A row t n v p → m ≡ size (changed A (take n row) p v)

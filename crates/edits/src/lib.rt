@@ -67,21 +67,48 @@ fn replace_symbols(row: &mut [u16], n: usize, p: usize, e: usize, v: &[u16])
 }
 
 // In the table of n entries at the front of the buffer, those from p to e give way to those of the row `v`, and the others
-// move; freed places are marked so.
-fn replace_ends(arities: &[u16], table: &mut [u16], n: usize, p: usize, e: usize, v: &[u16])
-    requires { ⌜ Movable (now table) n p e (p + length (now v)) ⌝ }
+// move; freed places are marked so. `standing` has room for the ends of `v`.
+fn replace_ends(
+    arities: &[u16],
+    table: &mut [u16],
+    n: usize,
+    p: usize,
+    e: usize,
+    v: &[u16],
+    standing: &mut [u16],
+)
+    requires { ⌜ Movable (now table) n p e (p + length (now v)) × (length (now v) ≤ length (now standing)) ⌝ }
     requires { ⌜ Accepted (now arities) (now v) ⌝ }
     ensures { λ r. ⌜ now (table .exit) ≡ renewed (now (table .entry)) n freedEntry (splicedEnds (take n (now (table .entry))) p e (p + length (now (v .entry))) (ends p (parse (now (arities .entry)) (now (v .entry))))) ⌝ }
 {
     let to = p + v.len();
     let rest = n - e;
     move_ends(table, n, p, e, to);
-    tables::fill_ends(arities, v, table, p);
+    tables::fill_beside(arities, v, table, p, standing);
     buffers::fill(table, to + rest, n, rows::FREED_ENTRY);
 }
 
 // In the row of n symbols at the front of its buffer, with its table, the subtree at p gives way to the row `v`. The answer
-// is the new length.
+// is the new length. `standing` has room for the ends of `v`.
+pub fn replace_beside(
+    arities: &[u16],
+    row: &mut [u16],
+    table: &mut [u16],
+    n: usize,
+    v: &[u16],
+    p: usize,
+    standing: &mut [u16],
+) -> usize
+    requires { ⌜ Replaceable (now arities) (now row) (now table) n (now v) p × (length (now v) ≤ length (now standing)) ⌝ }
+    ensures { λ r. ⌜ Replacing (now (arities .entry)) (now (row .entry)) (now (table .entry)) n (now (v .entry)) p (now (row .exit)) (now (table .exit)) r ⌝ }
+{
+    let e = table[p] as usize;
+    replace_symbols(row, n, p, e, v);
+    replace_ends(arities, table, n, p, e, v, standing);
+    p + v.len() + (n - e)
+}
+
+// The same. A shorter replacement takes less room for its ends.
 pub fn replace_at(
     arities: &[u16],
     row: &mut [u16],
@@ -90,13 +117,19 @@ pub fn replace_at(
     v: &[u16],
     p: usize,
 ) -> usize
-    requires { ⌜ Replaceable (now arities) (now row) (now table) n (now v) p ⌝ }
+    requires { ⌜ Replaceable (now arities) (now row) (now table) n (now v) p × (length (now v) ≤ rowMost) ⌝ }
     ensures { λ r. ⌜ Replacing (now (arities .entry)) (now (row .entry)) (now (table .entry)) n (now (v .entry)) p (now (row .exit)) (now (table .exit)) r ⌝ }
 {
-    let e = table[p] as usize;
-    replace_symbols(row, n, p, e, v);
-    replace_ends(arities, table, n, p, e, v);
-    p + v.len() + (n - e)
+    if v.len() <= tables::SHORT {
+        let mut standing = tables::short_room();
+        return replace_beside(arities, row, table, n, v, p, &mut standing);
+    }
+    if v.len() <= tables::MIDDLE {
+        let mut standing = tables::middle_room();
+        return replace_beside(arities, row, table, n, v, p, &mut standing);
+    }
+    let mut standing = tables::long_room();
+    replace_beside(arities, row, table, n, v, p, &mut standing)
 }
 
 // Refusals 17 and 18, for a subtree of `size` symbols at position p of a row of n symbols with its table, where the shortest

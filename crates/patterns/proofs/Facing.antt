@@ -232,7 +232,7 @@ module _ (A w e : List ℕ) (few : length A ≤ alphabetMost) (v : ℕ → Tree)
       ap (λ (u : List ℕ). j ∷ u) (faces s cs f t ds g j q r h (leaf s) (kind s) (traced cs) (traced f) (x .0) (x .1))
 
 module _ (a : Alphabet) (P : Programme) (q : List ℕ) (c : Checked a P q) (p : ℕ) (inside : p < length (P .row)) where
-  small : (j : ℕ) → getD (P .row) j 0 < firstVariable
+  pub small : (j : ℕ) → getD (P .row) j 0 < firstVariable
   small j = go (decLt j (length (P .row)))
     where
       go : Dec (j < length (P .row)) → getD (P .row) j 0 < firstVariable

@@ -1,17 +1,19 @@
 -- How many symbols at the front of two lists are the same: all of them exactly if the lists are equal.
 -- Assumes nothing.
 use Prim.Native.Nat.{ℕ, zero, suc, _+_, _-_, _≤_, _<_}
-use mathlib.Core.Path.{_≡_, refl, sym, ap, _∙_, subst}
+use mathlib.Core.Path.{_≡_, refl, sym, ap, _∙_}
 use mathlib.Core.List.{List, [], _∷_}
 use mathlib.Core.Bool.{Bool, true, false}
 use native.Mathlib.Omega.{arith}
 use native.Mathlib.Nat.{add-zero, zero-add}
+use native.Mathlib.Decide.{ℕ-discrete, decLt}
+use native.Mathlib.Numerals.{add-one}
 use borrow.Author.Tests.{eq-eqb, eqb-true}
 use lib.Dec.{eqb}
 use lib.ListN.{getD, length, take, drop}
-use lib.Seq.{drop-cons, drop-drop}
+use lib.Seq.{drop-cons}
 use Rattle.rows.specs.Row.{pick}
-use Rattle.patterns.specs.Walk.{sameSymbol, sameFront}
+use Rattle.patterns.specs.Walk.{sameSymbol, sameFront, Alike}
 
 pub front-same : (xs : List ℕ) → sameFront xs xs ≡ length xs
 unfolding sameFront
@@ -81,52 +83,35 @@ module _ (w : List ℕ) (a b n i : ℕ) (ha : a + n ≤ length w) (hb : b + n �
   unfolding sameFront run
   counted-end l = let z : n - i ≡ 0 = omega arith in rw z (add-zero i)
 
--- a stretch of m symbols at the front: all of them are the same, and counting goes on behind it
-front-long : (m n : ℕ) (xs ys : List ℕ) → m ≤ n → sameFront (take m xs) (take m ys) ≡ m
-    → sameFront (take n xs) (take n ys) ≡ m + sameFront (take (n - m) (drop m xs)) (take (n - m) (drop m ys))
-unfolding sameFront
-front-long zero n xs ys h q = let z : n - 0 ≡ n = omega arith in rw z (sym (zero-add (sameFront (take n xs) (take n ys))))
-front-long (suc m) zero xs ys h q = absurd (omega arith)
-front-long (suc m) (suc n) [] ys h q = absurd (omega arith)
-front-long (suc m) (suc n) (x ∷ xs) [] h q = absurd (omega arith)
-front-long (suc m) (suc n) (x ∷ xs) (y ∷ ys) h q = go (eqb x y) q (front-long m n xs ys (omega arith))
+-- SYMBOLS THAT ARE THE SAME, PLACE BY PLACE
+-- one more
+pub alike-more : (x : List ℕ) (a : ℕ) (y : List ℕ) (b n : ℕ) → Alike x a y b n → getD x (a + n) 0 ≡ getD y (b + n) 0 → Alike x a y b (n + 1)
+alike-more x a y b n h z k l = go (ℕ-discrete k n)
   where
-    go : (c : Bool) → pick c (suc (sameFront (take m xs) (take m ys))) 0 ≡ suc m
-        → (sameFront (take m xs) (take m ys) ≡ m → sameFront (take n xs) (take n ys) ≡ m + sameFront (take (n - m) (drop m xs)) (take (n - m) (drop m ys)))
-        → pick c (suc (sameFront (take n xs) (take n ys))) 0 ≡ suc m + sameFront (take (suc n - suc m) (drop m xs)) (take (suc n - suc m) (drop m ys))
-    go true r ih = let z : suc n - suc m ≡ n - m = omega arith in rw z (omega (arith, ih (omega arith)))
-    go false r ih = absurd (omega arith)
+    go : Dec (k ≡ n) → getD x (a + k) 0 ≡ getD y (b + k) 0
+    go (yes d) = rw d z
+    go (no d) = h k (omega arith)
 
--- or one differs, and counting ends before the stretch does
-front-short : (m n : ℕ) (xs ys : List ℕ) → m ≤ n → sameFront (take m xs) (take m ys) < m → sameFront (take n xs) (take n ys) ≡ sameFront (take m xs) (take m ys)
-unfolding sameFront
-front-short zero n xs ys h q = absurd (omega arith)
-front-short (suc m) zero xs ys h q = absurd (omega arith)
-front-short (suc m) (suc n) [] ys h q = refl
-front-short (suc m) (suc n) (x ∷ xs) [] h q = refl
-front-short (suc m) (suc n) (x ∷ xs) (y ∷ ys) h q = go (eqb x y) q (front-short m n xs ys (omega arith))
+-- m more
+pub alike-joined : (x : List ℕ) (a : ℕ) (y : List ℕ) (b n m : ℕ) → Alike x a y b n → Alike x (a + n) y (b + n) m → Alike x a y b (n + m)
+alike-joined x a y b n m h g k l = go (decLt k n)
   where
-    go : (c : Bool) → pick c (suc (sameFront (take m xs) (take m ys))) 0 < suc m
-        → (sameFront (take m xs) (take m ys) < m → sameFront (take n xs) (take n ys) ≡ sameFront (take m xs) (take m ys))
-        → pick c (suc (sameFront (take n xs) (take n ys))) 0 ≡ pick c (suc (sameFront (take m xs) (take m ys))) 0
-    go true r ih = ap suc (ih (omega arith))
-    go false r ih = refl
+    go : Dec (k < n) → getD x (a + k) 0 ≡ getD y (b + k) 0
+    go (yes d) = h k d
+    go (no d) =
+        let to-a : a + n + (k - n) ≡ a + k = omega arith in
+        let to-b : b + n + (k - n) ≡ b + k = omega arith in
+        ap (λ (i : ℕ). getD x i 0) (sym to-a) ∙ g (k - n) (omega arith) ∙ ap (λ (i : ℕ). getD y i 0) to-b
 
--- r of a stretch of m symbols from place i on are the same
-module _ (w : List ℕ) (a b n i m r : ℕ) (h : i + m ≤ n) (q : r ≡ sameFront (take m (drop (a + i) w)) (take m (drop (b + i) w))) where
-  pub stretch-same : r ≡ m → counted w a b n i ≡ counted w a b n (i + m)
-  unfolding run
-  stretch-same z =
-      let left : n - i - m ≡ n - (i + m) = omega arith in
-      let from-a : a + i + m ≡ a + (i + m) = omega arith in
-      let from-b : b + i + m ≡ b + (i + m) = omega arith in
-      ap (_+_ i) (front-long m (n - i) (drop (a + i) w) (drop (b + i) w) (omega arith) (sym q ∙ z))
-      ∙ rw (drop-drop m (a + i) w, drop-drop m (b + i) w, left, from-a, from-b) (omega arith)
+-- so many are counted
+pub alike-counted : (w : List ℕ) (a b n i : ℕ) → a + n ≤ length w → b + n ≤ length w → i ≤ n → Alike w a w b i → counted w a b n 0 ≡ counted w a b n i
+alike-counted w a b n zero ha hb l h = refl
+alike-counted w a b n (suc i) ha hb l h =
+    alike-counted w a b n i ha hb (omega arith) (λ k u. h k (omega arith))
+    ∙ counted-more w a b n i ha hb (omega arith) (eq-eqb _ _ (h i (omega arith)))
+    ∙ ap (counted w a b n) (add-one i)
 
-  pub stretch-other : r < m → counted w a b n i ≡ i + r
-  unfolding run
-  stretch-other l = ap (_+_ i) (front-short m (n - i) (drop (a + i) w) (drop (b + i) w) (omega arith) (subst (λ (x : ℕ). x < m) q l) ∙ sym q)
-
-  pub stretch-last : m ≡ n - i → counted w a b n i ≡ i + r
-  unfolding run
-  stretch-last z = ap (_+_ i) (ap (λ (x : ℕ). sameFront (take x (drop (a + i) w)) (take x (drop (b + i) w))) (sym z) ∙ sym q)
+-- r of the m symbols that are left behind place i are the same
+pub stretch-last : (w : List ℕ) (a b n i m r : ℕ) → r ≡ sameFront (take m (drop (a + i) w)) (take m (drop (b + i) w)) → m ≡ n - i → counted w a b n i ≡ i + r
+unfolding run
+stretch-last w a b n i m r q z = ap (_+_ i) (ap (λ (x : ℕ). sameFront (take x (drop (a + i) w)) (take x (drop (b + i) w))) (sym z) ∙ sym q)

@@ -1,18 +1,20 @@
 -- What a number of a pattern says of itself by its kind.
 -- Assumes nothing.
 use Prim.Native.Nat.{ℕ, _+_, _-_, _≤_, _<_}
-use mathlib.Core.Path.{_≡_, refl, _∙_}
+use mathlib.Core.Path.{_≡_, refl, ap, _∙_}
 use mathlib.Core.List.{List}
 use mathlib.Core.Bool.{Bool, true, false}
 use native.Mathlib.Omega.{arith}
+use native.Mathlib.Decide.{ℕ-discrete}
 use borrow.Author.Tests.{lt-ltb, eq-eqb, ne-eqb, eqb-true, ltb-true, ltb-false}
 use lib.Dec.{ltb, eqb}
-use lib.ListN.{length, List·getD-eq-default}
+use lib.ListN.{length, getD, List·getD-eq-default}
 use Rattle.rows.specs.Limits.{alphabetMost, blank, firstVariable, variables}
 use Rattle.rows.specs.Tree.{Forest, Forest.none, Forest.grow, Ranked}
 use Rattle.rows.specs.Row.{pick, isVariable}
 use Rattle.rows.proofs.Tree.{no-trees}
 use Rattle.patterns.specs.Pattern.{leaf}
+use Rattle.patterns.specs.Searchable.{BlankFrom}
 use Rattle.patterns.specs.declared.Leaf.{Leaf}
 use Rattle.patterns.specs.declared.Leaf.the-variants.{Plain, Blank, Variable}
 
@@ -63,3 +65,11 @@ plain-symbol s h = rw (ne-eqb s blank (omega arith), lt-ltb s firstVariable h) r
 pub leaf-alone : (A : List ℕ) (ok : ℕ → Bool) (s : ℕ) (cs f : Forest) → length A ≤ alphabetMost → Ranked A ok (grow s cs f) → firstVariable ≤ s → cs ≡ none
 unfolding Ranked
 leaf-alone A ok s cs f few r h = no-trees cs (r .1 ∙ List·getD-eq-default A 0 (omega arith))
+
+-- one more S at the end
+pub blank-more : (q : List ℕ) (m : ℕ) → 0 < m → BlankFrom q m → leaf (getD q (m - 1) 0) ≡ Blank → BlankFrom q (m - 1)
+blank-more q m some h z = record { within = omega (arith, h .within); blank = λ i l u. go i l u (ℕ-discrete i (m - 1)) }
+  where
+    go : (i : ℕ) → m - 1 ≤ i → i < length q → Dec (i ≡ m - 1) → leaf (getD q i 0) ≡ Blank
+    go i l u (yes d) = ap (λ (n : ℕ). leaf (getD q n 0)) d ∙ z
+    go i l u (no d) = h .blank i (omega arith) u

@@ -1,18 +1,14 @@
 -- The size of what a pattern matches: its own at least, and no other where it has no blanks.
 -- Assumes nothing.
-use Prim.Native.Nat.{ℕ, suc, _+_, _≤_, _<_}
+use Prim.Native.Nat.{ℕ, suc, _+_, _<_}
 use mathlib.Core.Path.{_≡_, refl, sym, ap, _∙_}
 use mathlib.Core.List.{List, _++_}
-use mathlib.Core.Bool.{Bool}
 use native.Mathlib.Omega.{arith}
 use lib.ListN.{getD, length, List·getD-append, length-append}
 use lib.Seq.{getD-append-add}
-use Rattle.rows.specs.Limits.{alphabetMost}
 use Rattle.rows.specs.Programme.{Alphabet, Programme}
-use Rattle.rows.specs.Tree.{Forest, Forest.none, Forest.grow, Tree, single, size, prefix, Ranked, subtreeAt}
+use Rattle.rows.specs.Tree.{Forest, Forest.none, Forest.grow, Tree, single, size, prefix, subtreeAt}
 use Rattle.rows.specs.Parse.{parse, treeOf, table}
-use Rattle.rows.specs.Row.{allowed}
-use Rattle.rows.specs.declared.Leaves.the-variants.{Blanks}
 use Rattle.rows.proofs.Tree.{length-prefix}
 use Rattle.rows.proofs.Entry.{entry-first}
 use Rattle.rows.proofs.Subtrees.{subtree-first}
@@ -22,7 +18,6 @@ use Rattle.patterns.specs.Answers.{MatchesAt}
 use Rattle.patterns.specs.Searchable.{Checked}
 use Rattle.patterns.specs.declared.Leaf.{Leaf}
 use Rattle.patterns.specs.declared.Leaf.the-variants.{Plain, Blank, Variable}
-use Rattle.patterns.proofs.Leaves.{Kind, kind, leaf-alone}
 use Rattle.patterns.proofs.Fits.{FitsLeaf, Fits, matches-fits}
 use Rattle.patterns.proofs.Matching.{PatternOf, checked-pattern}
 
@@ -48,23 +43,6 @@ module _ (v : ℕ → Tree) where
       let inside : size cs ≡ size ds = exactly cs ds under (plain-below s t ds (Fits v cs ds) (leaf s) (h .0) (n 0 (omega arith))) in
       omega (arith, exactly f g right (h .1))
 
-  module _ (A : List ℕ) (few : length A ≤ alphabetMost) (ok : ℕ → Bool) where
-    -- below a blank stands nothing in the pattern
-    below-blank : (s : ℕ) (cs f ds : Forest) (l : Leaf) → Kind s l → Ranked A ok (grow s cs f) → (l ≡ Plain → size cs ≤ size ds) → size cs ≤ size ds
-    unfolding size
-    below-blank s cs f ds Plain k r ih = ih refl
-    below-blank s cs f ds Blank k r ih = omega (arith, ap size (leaf-alone A ok s cs f few r k))
-    below-blank s cs f ds (Variable i) k r ih = omega (arith, ap size (leaf-alone A ok s cs f few r (k .0)))
-
-    at-least : (P G : Forest) → Ranked A ok P → Fits v P G → size P ≤ size G
-    unfolding Fits size Ranked
-    at-least none G r h = omega arith
-    at-least (grow s cs f) none r h = absurd h
-    at-least (grow s cs f) (grow t ds g) r h =
-        let under : size cs ≤ size ds =
-        below-blank s cs f ds (leaf s) (kind s) r (λ z. at-least cs ds (r .2) (plain-below s t ds (Fits v cs ds) (leaf s) (h .0) z)) in
-        omega (arith, at-least f g (r .3) (h .1))
-
 module _ (a : Alphabet) (P : Programme) (q : List ℕ) (c : Checked a P q) (p : ℕ) (inside : p < length (P .row)) (m : MatchesAt a (P .row) q p) where
   abbrev under : Tree
   under = subtreeAt (parse (a .arities) (P .row)) p
@@ -78,13 +56,7 @@ module _ (a : Alphabet) (P : Programme) (q : List ℕ) (c : Checked a P q) (p : 
   long : size (single (treeOf (a .arities) q)) ≡ length q
   long = sym (length-prefix (single (treeOf (a .arities) q))) ∙ ap length (Q .reads)
 
-  -- the subtree has as many symbols as the pattern has numbers, or more
-  pub size-at-least : p + length q ≤ getD (P .table) p 0
-  size-at-least =
-      let h = at-least (m .choice .forVariable) (a .arities) (c .few) (allowed Blanks (a .arities)) (single (treeOf (a .arities) q)) (single under) (Q .ranked) (matches-fits (treeOf (a .arities) q) under m) in
-      omega (arith, end, long)
-
-  -- and not more, if the pattern has no blanks
+  -- the subtree has as many symbols as the pattern has numbers, if that has no blanks
   pub size-exactly : NoBlanks q → getD (P .table) p 0 ≡ p + length q
   size-exactly n =
       let h = exactly (m .choice .forVariable) (single (treeOf (a .arities) q)) (single under) (rw (Q .reads) n) (matches-fits (treeOf (a .arities) q) under m) in

@@ -34,7 +34,7 @@ module _ (w : List ℕ) (end k j : ℕ) (ms : List ℕ) (i : ℕ) where
   abbrev Told : Stepped → List ℕ → Type 0
   Told r ms′ = Stepping (meets w end k j ms i (getD ms i 0)) ms r ms′
 
-  meets-first : getD ms i 0 ≡ 0 → meets w end k j ms i (getD ms i 0) ≡ reaches end (set ms i (j + 1))
+  pub meets-first : getD ms i 0 ≡ 0 → meets w end k j ms i (getD ms i 0) ≡ reaches end (set ms i (j + 1))
   unfolding meets
   meets-first z = rw z refl
 
@@ -42,7 +42,7 @@ module _ (w : List ℕ) (end k j : ℕ) (ms : List ℕ) (i : ℕ) where
   met-first z = answers _ (reaches end (set ms i (j + 1))) ms (meets-first z)
 
   module _ (later : getD ms i 0 ≡ 0 → ⊥) (n : ℕ) (q : n ≡ agreeing w (getD ms i 0 - 1) j (end - j)) where
-    meets-later : (b : Bool) → eqb n (end - j) ≡ b → meets w end k j ms i (getD ms i 0) ≡ pick b (reaches end ms) (misses k (j + n))
+    pub meets-later : (b : Bool) → eqb n (end - j) ≡ b → meets w end k j ms i (getD ms i 0) ≡ pick b (reaches end ms) (misses k (j + n))
     unfolding meets
     meets-later b y =
         let m : getD ms i 0 ≡ suc (getD ms i 0 - 1) = omega arith in

@@ -33,6 +33,14 @@ sameFront (x ∷ xs) (y ∷ ys) = pick (sameSymbol x y) (suc (sameFront xs ys)) 
 abbrev pub agreeing : List ℕ → ℕ → ℕ → ℕ → ℕ
 agreeing w a j n = sameFront (take n (drop a w)) (take n (drop j w))
 
+-- n symbols from position a on are those from position j on
+abbrev pub twice : List ℕ → ℕ → ℕ → ℕ → Bool
+twice w a j n = eqb (agreeing w a j n) n
+
+-- n symbols of x from position a on are those of y from position b on
+abbrev pub Alike : List ℕ → ℕ → List ℕ → ℕ → ℕ → Type 0
+Alike x a y b n = (k : ℕ) → k < n → getD x (a + k) 0 ≡ getD y (b + k) 0
+
 -- how far a walk comes: to a mismatch at a place of the pattern and a row position, or to a row position with its marks
 pub data Outcome : Type 0 where
   misses : ℕ → ℕ → Outcome

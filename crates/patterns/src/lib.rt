@@ -2,11 +2,12 @@
 // its table. A step that fails says where: at which place of the pattern, and at which position of the row.
 ghost use mathlib.Core.Path.{_≡_};
 ghost use mathlib.Core.Bool.{false};
-ghost use Prim.Native.Nat.{_+_, _≤_, _<_};
+ghost use Prim.Native.Nat.{_+_, _-_, _≤_, _<_};
 ghost use lib.ListN.{length, getD};
 ghost use Rattle.rows.specs.Refusals.{pattern};
 ghost use Rattle.patterns.specs.Pattern.{leaf};
-ghost use Rattle.patterns.specs.Walk.{sameSymbol, agreeing, meets, steps, Ends, MarksIn, Meetable, Stepping};
+ghost use Rattle.patterns.specs.Searchable.{BlankFrom};
+ghost use Rattle.patterns.specs.Walk.{sameSymbol, agreeing, twice, Alike, meets, steps, Ends, MarksIn, Meetable, Stepping};
 use rows::Check;
 use rows::Leaves;
 use rows::Refusal;
@@ -44,7 +45,8 @@ pub fn check_pattern(arities: &[u16], list: &[u16]) -> Check
     }
 }
 
-// Are two symbols the same? Symbols are compared here, and in `stands_in` of `searches`, which looks for a root only.
+// Are two symbols the same? Symbols are compared here, eight at a time in `eight_differ`, and in `stands_in` of `searches`, which
+// looks for a root only.
 pub fn same(x: u16, y: u16) -> bool
     ensures { λ r. ⌜ r ≡ sameSymbol x y ⌝ }
 {
@@ -67,20 +69,53 @@ fn count_singly(row: &[u16], a: usize, b: usize, n: usize) -> usize
     i
 }
 
-// The same, eight symbols a turn: the compiler writes a count of eight out.
-fn count_same(row: &[u16], a: usize, b: usize, n: usize) -> usize
+// The symbols that are looked at at once.
+const EIGHT: usize = 8;
+
+// Do eight symbols of x from a on differ from those of y from b on? They are looked at without a way out of them, which the
+// compiler turns into vector instructions.
+fn eight_differ(x: &[u16], a: usize, y: &[u16], b: usize) -> bool
+    requires { ⌜ (a + 8 ≤ length (now x)) × (b + 8 ≤ length (now y)) ⌝ }
+    ensures { λ r. ⌜ (r ≡ false → Alike (now (x .entry)) a (now (y .entry)) b 8) ⌝ }
+{
+    let mut differ: u16 = 0;
+    for k in 0..EIGHT {
+        if x[a + k] != y[b + k] {
+            differ = 1;
+        }
+    }
+    differ == 1
+}
+
+// How many of the n symbols of x from a on are those of y from b on, in whole eights: left at the first eight that differ.
+pub fn count_eights(x: &[u16], a: usize, y: &[u16], b: usize, n: usize) -> usize
+    requires { ⌜ (a + n ≤ length (now x)) × (b + n ≤ length (now y)) ⌝ }
+    ensures { λ r. ⌜ (r ≤ n) × Alike (now (x .entry)) a (now (y .entry)) b r ⌝ }
+{
+    for t in 0..n / EIGHT {
+        if eight_differ(x, a + t * EIGHT, y, b + t * EIGHT) {
+            return t * EIGHT;
+        }
+    }
+    n / EIGHT * EIGHT
+}
+
+// The same as `count_singly`: first in eights, then what is left of them singly.
+pub fn count_same(row: &[u16], a: usize, b: usize, n: usize) -> usize
     requires { ⌜ (a + n ≤ length (now row)) × (b + n ≤ length (now row)) ⌝ }
     ensures { λ r. ⌜ r ≡ agreeing (now (row .entry)) a b n ⌝ }
 {
-    let mut i = 0;
-    while i + 8 <= n {
-        let k = count_singly(row, a + i, b + i, 8);
-        if k < 8 {
-            return i + k;
-        }
-        i += 8;
-    }
+    let i = count_eights(row, a, row, b, n);
     i + count_singly(row, a + i, b + i, n - i)
+}
+
+// Does the subtree at b stand at a, before it, too?
+pub fn stands_twice(row: &[u16], table: &[u16], a: usize, b: usize) -> bool
+    requires { ⌜ Ends (now row) (now table) × (a < b) × (b < length (now row)) ⌝ }
+    ensures { λ r. ⌜ r ≡ twice (now (row .entry)) a b (getD (now (table .entry)) b 0 - b) ⌝ }
+{
+    let n = table[b] as usize - b;
+    count_same(row, a, b, n) == n
 }
 
 // What a number of the pattern finds in the row: the position after what it stands for; or its place in the pattern, and the
@@ -141,4 +176,18 @@ pub fn step(
         Leaf::Blank => Stepped::To(table[j] as usize),
         Leaf::Variable(i) => meet(row, i, k, j, table[j] as usize, marks),
     }
+}
+
+// How many numbers of the pattern stand before the S at its end, which fit whatever stands there.
+pub fn count_compared(pattern: &[u16]) -> usize
+    ensures { λ r. ⌜ BlankFrom (now (pattern .entry)) r ⌝ }
+{
+    let mut m = pattern.len();
+    while 0 < m {
+        if pattern[m - 1] != rows::BLANK {
+            return m;
+        }
+        m -= 1;
+    }
+    m
 }

@@ -5,8 +5,10 @@ use Prim.Native.Nat.{ℕ, suc, _+_, _-_, _≤_, _<_}
 use mathlib.Core.Path.{_≡_, refl, sym, ap, _∙_, subst}
 use mathlib.Core.Logic.{_⊎_, inl, inr}
 use mathlib.Core.List.{List, [], append-nil}
+use mathlib.Core.Bool.{Bool, true, false}
 use native.Mathlib.Omega.{arith}
 use lib.ListN.{length, getD, drop, drop-of-length-le}
+use Rattle.rows.specs.Limits.{firstVariable}
 use Rattle.rows.specs.Programme.{Alphabet}
 use Rattle.rows.specs.Tree.{Forest, Forest.none, Forest.grow, Tree, single, size, count, prefix, ends, Ranked, subtreeAt}
 use Rattle.rows.specs.Parse.{first, parse, treeOf, table, behind}
@@ -17,16 +19,21 @@ use Rattle.rows.proofs.Parse.{prefix-parse, size-parse}
 use Rattle.rows.proofs.Accept.{count-parse, ranked-parse}
 use Rattle.rows.proofs.Entry.{behind-some, drop-table}
 use Rattle.rows.proofs.Subtrees.{subtree-first}
-use Rattle.patterns.specs.Pattern.{Match}
-use Rattle.patterns.specs.Walk.{Outcome.misses, Outcome.reaches, walk, unmarked, MarksIn}
+use Rattle.patterns.specs.Pattern.{leaf, Match}
+use Rattle.patterns.specs.Walk.{sameSymbol, Outcome.misses, Outcome.reaches, steps, walk, unmarked, MarksIn}
+use Rattle.patterns.specs.declared.Leaf.{Leaf}
+use Rattle.patterns.specs.declared.Leaf.the-variants.{Plain, Blank, Variable}
+use Rattle.patterns.proofs.Leaves.{Kind, kind}
+use Rattle.patterns.proofs.Steps.{steps-same, steps-blank, steps-variable}
 use Rattle.patterns.proofs.Standing.{Stands, Planted, stands-first}
 use Rattle.patterns.proofs.Fits.{fits-matches, matches-fits}
 use Rattle.patterns.proofs.Marks.{unmarked-zero, marks-none}
 use Rattle.patterns.proofs.Walks.{complete, sound}
 use Rattle.patterns.proofs.Missing.{Lies, misses-where}
 use Rattle.patterns.proofs.Matching.{PatternOf, pattern-of}
-use Rattle.plain.specs.Plain.{starts, Lent, Passes, Tryable}
+use Rattle.plain.specs.Plain.{BlankFrom, starts, markedLength, Lent, Passes, Comes, Tryable}
 use Rattle.plain.proofs.Spelling.{spells-some, ranked-drop, first-within}
+use Rattle.plain.proofs.Trying.{first-leaf, comes-last, meets-new}
 
 -- the first tree of a forest that stands somewhere stands there
 stands-one : (w e : List ℕ) (j : ℕ) (g : Forest) → 0 < count g → Stands w e j g → Stands w e j (first 1 g)
@@ -102,27 +109,68 @@ module _ (a : Alphabet) (l q : List ℕ) (c : Tryable a l q) where
       omega arith
 
   -- the first tree of the pattern, tried at the part's start
-  pub lent-start : Lent (a .arities) 0 q l l unmarked 1
-  lent-start =
+  pub lent-start : (told : ℕ) → BlankFrom q 0 told → Lent (a .arities) told 0 q l l unmarked unmarked 1
+  lent-start told blanks =
       record {
         few = c .few;
-        most = c .most;
         placed = omega (arith, pattern .most);
-        end = ap (λ (n : ℕ). drop n l) (sym start);
+        blanks = blanks;
         pattern =
             record {
               ranked = ranked-parse (a .arities) (allowed Blanks (a .arities)) q 1 0 (pattern .whole);
               many = omega (arith, count-parse (a .arities) (allowed Blanks (a .arities)) q 1 0 (pattern .whole));
             };
-        row = c .row;
-        marks = marks-none (starts l l);
+        ahead =
+            record {
+              most = c .most;
+              ranked = c .row .ranked;
+              end = ap (λ (n : ℕ). drop n l) (sym start);
+              row = c .row;
+              marks = marks-none (starts l l);
+              lengths = record { many = refl; all = λ i. unmarked-zero i ∙ ap (markedLength (a .arities) l) (sym (unmarked-zero i)) };
+            };
       }
 
+  pub pattern-starts : 0 < length q
+  pattern-starts = pattern .some
+
+  -- all that is left fits
+  pub through-matches : Comes (walk l (table (a .arities) l) 0 q (starts l l) unmarked) → Match (treeOf (a .arities) q) (treeOf (a .arities) l)
+  through-matches h =
+      came-matches (h .to) (h .marks) (ap (λ (j : ℕ). walk l (table (a .arities) l) 0 q j unmarked) (sym start) ∙ h .reaches)
+
+  -- the first tree is the whole pattern
+  first-whole : size (first 1 (parse (a .arities) q)) ≡ length q
+  unfolding first
+  first-whole = omega (arith, ap (λ (f : Forest). size (first 1 f)) (pattern .tree), ap size (pattern .tree), size-parse (a .arities) q)
+
+  -- S or a variable is all of the pattern: it takes the whole tree
+  pub bare-matches : (leaf (getD q 0 0) ≡ Plain → ⊥) → Match (treeOf (a .arities) q) (treeOf (a .arities) l)
+  bare-matches bare = through-matches (go (leaf (getD q 0 0)) refl (sameSymbol (getD l (starts l l) 0) (getD q 0 0)) refl)
+    where
+      alone : firstVariable ≤ getD q 0 0 → BlankFrom q 0 1
+      alone h i t w = absurd (omega (arith, first-leaf (a .arities) q (c .few) (pattern .some) h, first-whole))
+
+      come : firstVariable ≤ getD q 0 0 → (n : ℕ) (ms : List ℕ) → steps l (table (a .arities) l) 0 (getD q 0 0) (starts l l) unmarked ≡ reaches n ms
+          → Comes (walk l (table (a .arities) l) 0 q (starts l l) unmarked)
+      come h n ms z = comes-last (a .arities) 1 0 q l l unmarked unmarked (lent-start 1 (alone h)) n ms (omega arith) z
+
+      go : (k : Leaf) → leaf (getD q 0 0) ≡ k → (b : Bool) → sameSymbol (getD l (starts l l) 0) (getD q 0 0) ≡ b
+          → Comes (walk l (table (a .arities) l) 0 q (starts l l) unmarked)
+      go Plain e b y = absurd (bare e)
+      go Blank e true y = come (subst (Kind (getD q 0 0)) e (kind (getD q 0 0))) _ _ (steps-same l (table (a .arities) l) 0 (getD q 0 0) (starts l l) unmarked y)
+      go Blank e false y = come (subst (Kind (getD q 0 0)) e (kind (getD q 0 0))) _ _ (steps-blank l (table (a .arities) l) 0 (getD q 0 0) (starts l l) unmarked y e)
+      go (Variable i) e true y = come (subst (Kind (getD q 0 0)) e (kind (getD q 0 0)) .0) _ _ (steps-same l (table (a .arities) l) 0 (getD q 0 0) (starts l l) unmarked y)
+      go (Variable i) e false y =
+          come (subst (Kind (getD q 0 0)) e (kind (getD q 0 0)) .0) _ _
+          (steps-variable l (table (a .arities) l) 0 (getD q 0 0) (starts l l) unmarked y i e
+          ∙ meets-new l (getD (table (a .arities) l) (starts l l) 0) 0 (starts l l) unmarked i (getD unmarked i 0) (unmarked-zero i))
+
   -- it fits: it is the whole pattern, so the walk comes through
-  pub past-matches : (p n : ℕ) (ms : List ℕ) → Passes (a .arities) 0 q l l unmarked 1 p n ms → Match (treeOf (a .arities) q) (treeOf (a .arities) l)
+  pub past-matches : (p n : ℕ) (ms ns : List ℕ) → Passes (a .arities) 0 q l l unmarked 1 p n ms ns → Match (treeOf (a .arities) q) (treeOf (a .arities) l)
   unfolding walk first
-  past-matches p n ms h =
-      let whole : length q ≤ p = omega (arith, h .numbers, ap (λ (f : Forest). size (first 1 f)) (pattern .tree), ap size (pattern .tree), size-parse (a .arities) q) in
+  past-matches p n ms ns h =
+      let whole : length q ≤ p = omega (arith, h .numbers, first-whole) in
       came-matches (starts l l + n) ms
       (ap (λ (j : ℕ). walk l (table (a .arities) l) 0 q j unmarked) (sym start)
       ∙ h .walks

@@ -102,7 +102,8 @@ pub enum Check {
     Refused(Refusal),
 }
 
-// The largest number of a part. What counts is that none is above it.
+// The largest number of a part. What counts is that none is above it. The part is looked at without a way out of it, which the
+// compiler turns into vector instructions.
 fn largest(part: &[u16]) -> u16
     ensures { λ r. ⌜ ((k : ℕ) → k < length (now (part .entry)) → getD (now (part .entry)) k 0 ≤ r) ⌝ }
 {
@@ -117,7 +118,6 @@ fn largest(part: &[u16]) -> u16
 }
 
 // How many numbers at the front are below the bound for sure: whole stretches of 64, up to the first that has another number.
-// A stretch is looked at without a way out of it, which the compiler turns into vector instructions.
 fn count_below(bound: usize, list: &[u16]) -> usize
     ensures { λ r. ⌜ BelowTo bound (now (list .entry)) r ⌝ }
 {
@@ -131,11 +131,14 @@ fn count_below(bound: usize, list: &[u16]) -> usize
     n
 }
 
-// Refusal 2: the first arity over 15.
+// Refusal 2: the first arity over 15, sought only where there is one.
 fn check_arities(arities: &[u16]) -> Check
     ensures { λ r. ⌜ r ≡ aritiesFit 0 (now (arities .entry)) ⌝ }
 {
-    let mut i = count_below(ARITY_MOST as usize + 1, arities);
+    if largest(arities) <= ARITY_MOST {
+        return Check::Fine;
+    }
+    let mut i = 0;
     while i < arities.len() {
         if ARITY_MOST < arities[i] {
             return Check::Refused(Refusal::Arities(Arities::Over(i)));

@@ -1,12 +1,13 @@
 -- A walk under way: each step stays within the row, since as many trees stand ahead in the row as in the pattern.
 -- Assumes nothing.
 use Prim.Native.Nat.{ℕ, zero, suc, _+_, _-_, _≤_, _<_}
-use mathlib.Core.Path.{_≡_, refl, sym, ap, ap₂, _∙_, subst}
+use mathlib.Core.Path.{_≡_, refl, sym, ap, ap₂, _∙_, subst, subst₂}
 use mathlib.Core.List.{List, _++_}
 use mathlib.Core.Bool.{Bool, true, false}
 use native.Mathlib.Omega.{arith}
 use native.Mathlib.Decide.{decLt}
-use borrow.Author.Tests.{eqb-true}
+use native.Mathlib.Nat.{zero-add}
+use borrow.Author.Tests.{eqb-true, eq-eqb}
 use lib.Dec.{eqb}
 use lib.ListN.{getD, length, drop, set, drop-of-length-le, List·getD-eq-default}
 use lib.Seq.{drop-drop, drop-at}
@@ -26,7 +27,7 @@ use Rattle.tables.specs.Given.{Right}
 use Rattle.tables.proofs.Given.{right-entry}
 use Rattle.patterns.specs.Pattern.{leaf}
 use Rattle.patterns.specs.Searchable.{Checked, Searchable}
-use Rattle.patterns.specs.Walk.{sameSymbol, agreeing, Outcome, Outcome.misses, Outcome.reaches, meets, takes, steps, onward, walk, unmarked, MarksIn, stepped, marksAfter, Stepping}
+use Rattle.patterns.specs.Walk.{sameSymbol, agreeing, Alike, Outcome, Outcome.misses, Outcome.reaches, meets, takes, steps, onward, walk, unmarked, MarksIn, stepped, marksAfter, Stepping}
 use Rattle.patterns.specs.declared.Leaf.{Leaf}
 use Rattle.patterns.specs.declared.Leaf.the-variants.{Plain, Blank, Variable}
 use Rattle.patterns.specs.declared.Stepped.{Stepped}
@@ -212,6 +213,16 @@ module _ (P : Programme) (q : List ℕ) (p : ℕ) where
             go : (o : Outcome) → here ≡ o → stepped o ≡ Miss x y → (e : List ℕ) → SameEnds P e → walk (P .row) e 0 q p unmarked ≡ misses x y
             go (misses x′ y′) t z = let there : x′ ≡ x = cc in let same : y′ ≡ y = cc in walking-stops x y (t ∙ ap₂ misses there same)
             go (reaches n ms″) t z = let x : _≡_ {A = ℕ} 0 1 = cc in absurd (omega arith)
+
+-- where the front of the pattern stands in the row, its numbers are passed
+pub walking-alike : (P : Programme) (q : List ℕ) (p : ℕ) → Searchable P q → p < length (P .row) → (n : ℕ) → n ≤ length q → Alike q 0 (P .row) p n → Walking P q p unmarked (p + n) n
+walking-alike P q p s inside zero l h = let z : p + 0 ≡ p = omega arith in rw z (walking-start P q p inside)
+walking-alike P q p s inside (suc n) l h =
+    let same : getD (P .row) (p + n) 0 ≡ getD q n 0 = sym (h n (omega arith)) ∙ ap (λ (i : ℕ). getD q i 0) (zero-add n) in
+    let to-j : p + n + 1 ≡ p + suc n = omega arith in
+    let to-k : n + 1 ≡ suc n = omega arith in
+    subst₂ (Walking P q p unmarked) to-j to-k
+    (walking-same P q p s unmarked (p + n) n (walking-alike P q p s inside n (omega arith) (λ k u. h k (omega arith))) (omega arith) (eq-eqb (getD (P .row) (p + n) 0) (getD q n 0) same))
 
 -- the walk comes through where only S are left
 pub walking-through : (P : Programme) (q : List ℕ) (p : ℕ) → Searchable P q → (n : ℕ) (ms : List ℕ) (j k : ℕ) → Walking P q p ms j k → length q ≤ k + n

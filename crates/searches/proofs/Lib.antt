@@ -1,3 +1,6 @@
+pub mod Passing
+pub mod Keeping
+pub mod Twins
 pub mod Going
 pub mod Searching
 pub mod Counting

@@ -5,7 +5,8 @@ use mathlib.Core.Path.{_≡_, refl, sym, ap, ap₂, _∙_}
 use mathlib.Core.List.{List, [], _∷_, _++_, append-assoc}
 use native.Mathlib.Omega.{arith}
 use native.Mathlib.Numerals.{add-one}
-use lib.ListN.{length, getD, set, length-append}
+use lib.ListN.{length, take, getD, set, length-append}
+use lib.Seq.{take-at}
 use Rattle.rows.specs.Buffers.{written}
 use Rattle.rows.proofs.Buffers.{written-snoc}
 use Rattle.patterns.specs.Walk.{markBegin, markEnd}
@@ -30,6 +31,11 @@ pub front-snoc : (y xs : List ℕ) (n x : ℕ) → n ≡ length xs → n < lengt
 front-snoc y xs n x q h =
     let at : n ≡ 0 + length xs = omega arith in
     ap (λ (m : ℕ). set (written y 0 xs) m x) at ∙ written-snoc y 0 xs x (omega arith)
+
+-- what stands at the front is read there
+pub front-taken : (y xs : List ℕ) (n : ℕ) → n ≡ length xs → take n (written y 0 xs) ≡ xs
+unfolding written
+front-taken y xs n q = take-at xs _ n (sym q)
 
 -- the spans of one mark more
 pub marks-more : (e ms y : List ℕ) (n b f : ℕ) → n + n + 1 < length y → b ≡ markBegin (getD ms n 0) → f ≡ markEnd e (getD ms n 0)

@@ -1,42 +1,39 @@
 -- Inside: no public contract cites what stands in this file, and no reader has to believe it.
 -- What the searches of this crate ask for, and what they promise to the public calls.
-use Prim.Native.Nat.{ℕ, _+_, _-_, _≤_, _<_}
+use Prim.Native.Nat.{ℕ, zero, suc, _+_, _-_, _≤_, _<_}
 use mathlib.Core.Path.{_≡_}
-use mathlib.Core.List.{List}
+use mathlib.Core.List.{List, [], _∷_}
 use mathlib.Core.Bool.{Bool, true, false}
-use lib.Dec.{ltb, leb}
+use lib.Dec.{eqb}
 use lib.ListN.{length, getD}
 use Rattle.rows.specs.Programme.{Alphabet, Programme}
 use Rattle.rows.specs.Parse.{table}
-use Rattle.rows.specs.Row.{pick}
+use Rattle.rows.specs.Row.{pick, isVariable}
 use Rattle.rows.specs.Buffers.{written}
 use Rattle.patterns.specs.Answers.{MatchesAt, Listed, spans}
 use Rattle.patterns.specs.Pattern.{leaf}
-use Rattle.patterns.specs.Searchable.{Checked, Searchable}
-use Rattle.patterns.specs.Walk.{below, sameSymbol, walk, unmarked, Decides, afterWalk}
+use Rattle.patterns.specs.Searchable.{Checked, Searchable, BlankFrom}
+use Rattle.patterns.specs.Walk.{below, sameSymbol, twice, Ends, walk, unmarked, Decides, afterWalk}
 use Rattle.patterns.specs.declared.Leaf.the-variants.{Plain, Blank}
 use Rattle.patterns.specs.declared.Walked.{Walked}
 use Rattle.searches.specs.declared.Outline.{Outline}
 use Rattle.searches.specs.declared.Next.{Next}
 use Rattle.searches.specs.declared.Next.the-variants.{At, Nowhere}
-use Rattle.searches.specs.declared.Stride.{Stride}
-use Rattle.searches.specs.declared.Stride.the-variants.{At as Stride·At, On}
 use Rattle.searches.specs.declared.Listing.{Listing}
 use Rattle.searches.specs.declared.Listing.the-variants.{All, Needs}
 
--- from place m on every number of the pattern is S
-pub record BlankFrom (q : List ℕ) (m : ℕ) : Type 0 where
-  pub within : m ≤ length q
-  pub blank : (i : ℕ) → m ≤ i → i < length q → leaf (getD q i 0) ≡ Blank
+-- the subtree at position p, by the ends e, has `size` symbols, or any number of them if that is 0
+unfoldable pub sized : List ℕ → ℕ → ℕ → Bool
+sized e size p = pick (eqb size 0) true (eqb (getD e p 0 - p) size)
 
--- where the pattern matches, the subtree has at most `most` symbols
-abbrev pub AtMost : Programme → List ℕ → ℕ → Type 0
-AtMost P q most = (a : Alphabet) → Checked a P q → (p : ℕ) → p < length (P .row) → MatchesAt a (P .row) q p → getD (P .table) p 0 ≤ p + most
+-- where the pattern matches, the subtree has that size
+abbrev pub AllSized : Programme → List ℕ → ℕ → Type 0
+AllSized P q size = (a : Alphabet) → Checked a P q → (p : ℕ) → p < length (P .row) → MatchesAt a (P .row) q p → sized (P .table) size p ≡ true
 
 -- what is known of the pattern is true
 pub record Outlined (P : Programme) (q : List ℕ) (o : Outline) : Type 0 where
   pub compared : BlankFrom q (o .compared)
-  pub most : AtMost P q (o .most)
+  pub size : AllSized P q (o .size)
 
 -- it can be searched for, and its root is a symbol
 pub record Seekable (P : Programme) (q : List ℕ) (o : Outline) : Type 0 where
@@ -44,13 +41,56 @@ pub record Seekable (P : Programme) (q : List ℕ) (o : Outline) : Type 0 where
   pub outlined : Outlined P q o
   pub symbol : leaf (getD q 0 0) ≡ Plain
 
+-- a stretch of a row of n symbols
+pub record Stretched (from to n : ℕ) : Type 0 where
+  pub on : from ≤ to
+  pub short : to ≤ from + 64
+  pub within : to ≤ n
+
+-- a pattern of which the numbers before place m decide, and n positions of the row
+pub record Keepable (P : Programme) (q : List ℕ) (m : ℕ) (ps : List ℕ) (n : ℕ) : Type 0 where
+  pub searchable : Searchable P q
+  pub compared : BlankFrom q m
+  pub within : (i : ℕ) → i < n → getD ps i 0 < length (P .row)
+
+-- a root over one variable, twice
+pub record Twin (q : List ℕ) : Type 0 where
+  pub long : length q ≡ 3
+  pub same : getD q 2 0 ≡ getD q 1 0
+  pub variable : isVariable (getD q 1 0) ≡ true
+
+-- the two subtrees of the symbol at position p of the row w with the ends e are the same
+unfoldable pub twins : List ℕ → List ℕ → ℕ → Bool
+twins w e p = twice w (p + 1) (getD e (p + 1) 0) (getD e (getD e (p + 1) 0) 0 - getD e (p + 1) 0)
+
+-- at n positions of the row two subtrees stand behind the symbol
+pub record Paired (w e ps : List ℕ) (n : ℕ) : Type 0 where
+  pub ends : Ends w e
+  pub first : (i : ℕ) → i < n → getD ps i 0 + 1 < length w
+  pub second : (i : ℕ) → i < n → getD e (getD ps i 0 + 1) 0 < length w
+
 -- the symbol s does not stand in the row w from position b up to e
 abbrev pub Without : List ℕ → ℕ → ℕ → ℕ → Type 0
 Without w s b e = (k : ℕ) → b ≤ k → k < e → getD w k 0 ≡ s → ⊥
 
--- the symbol s stands at position p of the row w with the ends e, over a subtree of at least `least` symbols and at most `most`
-unfoldable pub mayMatch : List ℕ → List ℕ → ℕ → ℕ → ℕ → ℕ → Bool
-mayMatch w e s least most p = pick (sameSymbol (getD w p 0) s) (pick (ltb (getD e p 0 - p) least) false (leb (getD e p 0 - p) most)) false
+-- the symbol s stands at position p of the row w with the ends e, over a subtree of that size
+unfoldable pub mayMatch : List ℕ → List ℕ → ℕ → ℕ → ℕ → Bool
+mayMatch w e s size p = pick (sameSymbol (getD w p 0) s) (sized e size p) false
+
+-- n positions from a on
+unfoldable pub range : ℕ → ℕ → List ℕ
+range a zero = []
+range a (suc n) = a ∷ range (suc a) n
+
+-- those of the positions that pass the test
+unfoldable pub passing : (ℕ → Bool) → List ℕ → List ℕ
+passing f [] = []
+passing f (p ∷ ps) = pick (f p) (p ∷ passing f ps) (passing f ps)
+
+-- those of the positions ps that pass the test are written to the buffer y from place n on, up to place r
+pub record Kept (f : ℕ → Bool) (ps y : List ℕ) (n r : ℕ) (y′ : List ℕ) : Type 0 where
+  pub end : r ≡ n + length (passing f ps)
+  pub buffer : y′ ≡ written y n (passing f ps)
 
 -- p is the first match from `from` on, and lies before `to`
 pub record FirstFrom (a : Alphabet) (w q : List ℕ) (from to p : ℕ) : Type 0 where
@@ -68,11 +108,6 @@ abbrev pub NextIs : Alphabet → List ℕ → List ℕ → ℕ → ℕ → Next 
 NextIs a w q from to (At p) = FirstFrom a w q from to p
 NextIs a w q from to Nowhere = NoneFrom a w q from to
 
--- what a stride from p finds
-abbrev pub StrideIs : Alphabet → List ℕ → List ℕ → ℕ → Stride → Type 0
-StrideIs a w q p (Stride·At n) = FirstFrom a w q p (length w) n
-StrideIs a w q p (On n) = (p < n) × (n ≤ length w) × NoneFrom a w q p n
-
 -- whether the pattern is S or a variable alone
 abbrev pub BareIs : List ℕ → Bool → Type 0
 BareIs q true = leaf (getD q 0 0) ≡ Plain → ⊥
@@ -81,12 +116,6 @@ BareIs q false = leaf (getD q 0 0) ≡ Plain
 -- the positions below n, rising
 abbrev pub positionsBelow : ℕ → List ℕ
 positionsBelow n = below (λ i. true) n
-
--- `r` is the number of all matches
-pub record Counts (a : Alphabet) (w q : List ℕ) (r : ℕ) : Type 0 where
-  pub positions : List ℕ
-  pub listed : Listed a w q (length w) positions
-  pub many : r ≡ length positions
 
 -- What is told of the list ps, for a buffer y that then holds y′: all is written at the buffer's front; or nothing is, since
 -- more places are needed.
@@ -99,10 +128,6 @@ pub record Lists (a : Alphabet) (w q y : List ℕ) (r : Listing) (y′ : List �
   pub positions : List ℕ
   pub listed : Listed a w q (length w) positions
   pub told : ListTold positions y r y′
-
--- n places are room for all matches
-abbrev pub RoomFor : Programme → List ℕ → ℕ → Type 0
-RoomFor P q n = (a : Alphabet) (ps : List ℕ) → Checked a P q → Listed a (P .row) q (length (P .row)) ps → length ps ≤ n
 
 -- `r` says whether the pattern matches at p, and where the walk over the row and its own table fails; if it matches, the spans
 -- of its variables are written at the front of the buffer y

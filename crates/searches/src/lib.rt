@@ -1,15 +1,15 @@
 // The searches: the matches of a pattern in a row with its table, and the variables at one match. Each walks along the
 // pattern, a step at a time, from a position of the row.
 ghost use mathlib.Core.Path.{_≡_};
-ghost use mathlib.Core.Bool.{false};
-ghost use Prim.Native.Nat.{_+_, _≤_, _<_};
-ghost use lib.ListN.{length};
+ghost use mathlib.Core.Bool.{true, false};
+ghost use Prim.Native.Nat.{_+_, _-_, _≤_, _<_};
+ghost use lib.ListN.{length, take};
 ghost use Rattle.rows.specs.Limits.{variables, rowMost};
 ghost use Rattle.rows.specs.Programme.{Alphabet, Programme, programme};
 ghost use Rattle.rows.specs.Buffers.{written};
 ghost use Rattle.patterns.specs.Searchable.{Checked, Searchable};
-ghost use Rattle.patterns.specs.Walk.{Ends, MarksIn, markBegin, markEnd};
-ghost use Rattle.searches.specs.Searches.{BlankFrom, AtMost, Outlined, Seekable, mayMatch, Without, NextIs, StrideIs, BareIs, positionsBelow, Counts, Lists, RoomFor, VariablesAt};
+ghost use Rattle.patterns.specs.Walk.{Ends, MarksIn, comesThrough, markBegin, markEnd};
+ghost use Rattle.searches.specs.Searches.{AllSized, Outlined, Seekable, Keepable, Stretched, Twin, Paired, mayMatch, range, passing, twins, Kept, Without, NextIs, BareIs, positionsBelow, Lists, VariablesAt};
 ghost use Rattle.searches.specs.Spans.{markSpans};
 ghost use Rattle.searches.specs.declared.Listing.the-variants.{All};
 use patterns::Leaf;
@@ -22,99 +22,50 @@ pub enum Next {
     Nowhere,
 }
 
-// What is known of a pattern before its search: how many of its numbers are compared, since S at its end always fits; and the
-// most symbols that a match can have.
+// What is known of a pattern before its search: how many of its numbers are compared, since S at its end always fits; and how
+// many symbols each of its matches has, or 0 where they can differ in that.
 struct Outline {
     compared: usize,
-    most: usize,
+    size: usize,
 }
 
-// How many numbers of the pattern stand before the S at its end.
-fn count_compared(pattern: &[u16]) -> usize
-    ensures { λ r. ⌜ BlankFrom (now (pattern .entry)) r ⌝ }
+// How many symbols each match of the pattern has: without blanks it matches its own size alone. Else 0. The numbers are looked at
+// without a way out of the loop, which the compiler turns into vector instructions.
+fn size_of(pattern: &[u16]) -> usize
+    ensures { λ r. ⌜ ((P : Programme) → AllSized P (now (pattern .entry)) r) ⌝ }
 {
-    let mut m = pattern.len();
-    while 0 < m {
-        if pattern[m - 1] != rows::BLANK {
-            return m;
-        }
-        m -= 1;
-    }
-    m
-}
-
-// The most symbols that a subtree of a row of n symbols can have where the pattern matches: without blanks the pattern matches
-// its own size alone.
-fn most_symbols(pattern: &[u16], n: usize) -> usize
-    ensures { λ r. ⌜ ((P : Programme) → length (P .row) ≤ n → AtMost P (now (pattern .entry)) r) ⌝ }
-{
+    let mut blanks: u16 = 0;
     for k in 0..pattern.len() {
-        let kind = patterns::leaf_of(pattern[k]);
-        let Leaf::Plain = kind else {
-            return n;
-        };
-    }
-    pattern.len()
-}
-
-// The outline of a pattern that is sought in a row of n symbols.
-fn outline_of(pattern: &[u16], n: usize) -> Outline
-    ensures { λ r. ⌜ ((P : Programme) → length (P .row) ≤ n → Outlined P (now (pattern .entry)) r) ⌝ }
-{
-    let compared = count_compared(pattern);
-    let most = most_symbols(pattern, n);
-    Outline { compared, most }
-}
-
-// Can a pattern match at p? Its root stands there, over a subtree of at least `least` symbols and at most `most`.
-fn may_match(row: &[u16], table: &[u16], root: u16, least: usize, most: usize, p: usize) -> bool
-    requires { ⌜ Ends (now row) (now table) × (p < length (now row)) ⌝ }
-    ensures { λ r. ⌜ r ≡ mayMatch (now (row .entry)) (now (table .entry)) root least most p ⌝ }
-{
-    if patterns::same(row[p], root) {
-        let size = table[p] as usize - p;
-        if size < least {
-            return false;
+        if rows::FIRST_VARIABLE <= pattern[k] {
+            blanks = 1;
         }
-        return size <= most;
+    }
+    if blanks == 1 { 0 } else { pattern.len() }
+}
+
+// The outline of a pattern.
+fn outline_of(pattern: &[u16]) -> Outline
+    ensures { λ r. ⌜ ((P : Programme) → Outlined P (now (pattern .entry)) r) ⌝ }
+{
+    let compared = patterns::count_compared(pattern);
+    let size = size_of(pattern);
+    Outline { compared, size }
+}
+
+// Can a pattern match at p? Its root stands there, over a subtree of its size. The table is read in any case, so that the
+// compiler needs no branch.
+fn may_match(row: &[u16], table: &[u16], root: u16, size: usize, p: usize) -> bool
+    requires { ⌜ Ends (now row) (now table) × (p < length (now row)) ⌝ }
+    ensures { λ r. ⌜ r ≡ mayMatch (now (row .entry)) (now (table .entry)) root size p ⌝ }
+{
+    let end = table[p] as usize;
+    if patterns::same(row[p], root) {
+        if size == 0 {
+            return true;
+        }
+        return end - p == size;
     }
     false
-}
-
-// The first match at position `from` or after it, before `to`, of a pattern whose root is a symbol. A number of the pattern
-// that does not fit sends the search to the next position.
-fn match_within(
-    row: &[u16],
-    table: &[u16],
-    pattern: &[u16],
-    outline: Outline,
-    from: usize,
-    to: usize,
-) -> Next
-    requires { ⌜ Seekable (programme (now row) (now table)) (now pattern) outline × (from ≤ to) × (to ≤ length (now row)) ⌝ }
-    ensures { λ r. ⌜ ((a : Alphabet) → Checked a (programme (now (row .entry)) (now (table .entry))) (now (pattern .entry)) → NextIs a (now (row .entry)) (now (pattern .entry)) from to r) ⌝ }
-{
-    let root = pattern[0];
-    'positions: for p in from..to {
-        if may_match(row, table, root, pattern.len(), outline.most, p) {
-            let mut marks = [0u16; patterns::MARKS];
-            let mut j = p + 1;
-            for k in 1..outline.compared {
-                let s = pattern[k];
-                if patterns::same(row[j], s) {
-                    j += 1;
-                } else {
-                    let found = patterns::step(row, table, k, s, j, &mut marks);
-                    let Stepped::To(next) = found else {
-                        continue 'positions;
-                    };
-                    j = next;
-                }
-            }
-            return Next::At(p);
-        }
-    }
-    Next::Nowhere
 }
 
 // Does the symbol stand in the part? It is looked at without a way out of it, which the compiler turns into vector
@@ -149,24 +100,150 @@ fn pass_over(row: &[u16], s: u16, from: usize) -> usize
     p
 }
 
-// What a search finds from a position on: the next match; or a later position to go on from, before which there is none.
-enum Stride {
-    At(usize),
-    On(usize),
+// The positions from `from` up to `to` where the pattern can match, at the front of `places`, and their number. Each is written
+// there, and counted if it stays: a branch would be foreseen wrongly too often.
+fn write_candidates(
+    row: &[u16],
+    table: &[u16],
+    root: u16,
+    size: usize,
+    from: usize,
+    to: usize,
+    places: &mut [u16; STRETCH],
+) -> usize
+    requires { ⌜ Ends (now row) (now table) × Stretched from to (length (now row)) × (length (now places) ≡ 64) ⌝ }
+    ensures { λ r. ⌜ (r ≤ to - from) × (length (now (places .exit)) ≡ 64) × (take r (now (places .exit)) ≡ passing (mayMatch (now (row .entry)) (now (table .entry)) root size) (range from (to - from))) ⌝ }
+{
+    let mut many = 0;
+    for p in from..to {
+        places[many] = p as u16;
+        if may_match(row, table, root, size, p) {
+            many += 1;
+        }
+    }
+    many
 }
 
-// One stride from p, for a pattern whose root is a symbol: a match is looked for close by, and where there is none, stretches
-// without the root are passed over.
-fn stride_from(row: &[u16], table: &[u16], pattern: &[u16], outline: Outline, p: usize) -> Stride
-    requires { ⌜ Seekable (programme (now row) (now table)) (now pattern) outline × (p < length (now row)) ⌝ }
-    ensures { λ r. ⌜ ((a : Alphabet) → Checked a (programme (now (row .entry)) (now (table .entry))) (now (pattern .entry)) → StrideIs a (now (row .entry)) (now (pattern .entry)) p r) ⌝ }
+// All of the places are matches: they are written to `out` from place `before` on. Answers the place behind them.
+fn keep_all(places: &[u16; STRETCH], many: usize, out: &mut [u16], before: usize) -> usize
+    requires { ⌜ (many ≤ 64) × (length (now places) ≡ 64) × (before + many ≤ length (now out)) ⌝ }
+    ensures { λ r. ⌜ (r ≡ before + many) × (now (out .exit) ≡ written (now (out .entry)) before (take many (now (places .entry)))) ⌝ }
 {
-    let to = rows::shorter(p + STRETCH, row.len());
-    let next = match_within(row, table, pattern, outline, p, to);
-    match next {
-        Next::At(n) => Stride::At(n),
-        Next::Nowhere => Stride::On(pass_over(row, pattern[0], to)),
+    for i in 0..many {
+        out[before + i] = places[i];
     }
+    before + many
+}
+
+// Those of the places where the pattern matches are written to `out` from place `before` on. Answers the place behind them. A
+// number of the pattern that does not fit sends the search to the next place.
+fn keep_matches(
+    row: &[u16],
+    table: &[u16],
+    pattern: &[u16],
+    compared: usize,
+    places: &[u16; STRETCH],
+    many: usize,
+    out: &mut [u16],
+    before: usize,
+) -> usize
+    requires { ⌜ Keepable (programme (now row) (now table)) (now pattern) compared (now places) many × (many ≤ 64) × (length (now places) ≡ 64) × (before + many ≤ length (now out)) ⌝ }
+    ensures { λ r. ⌜ Kept (comesThrough (now (row .entry)) (now (table .entry)) (now (pattern .entry))) (take many (now (places .entry))) (now (out .entry)) before r (now (out .exit)) ⌝ }
+{
+    let mut count = before;
+    'places: for i in 0..many {
+        let p = places[i] as usize;
+        let mut marks = [0u16; patterns::MARKS];
+        let most = rows::shorter(compared, row.len() - p);
+        let alike = patterns::count_eights(pattern, 0, row, p, most);
+        let mut j = p + alike;
+        for k in alike..compared {
+            let s = pattern[k];
+            if patterns::same(row[j], s) {
+                j += 1;
+            } else {
+                let found = patterns::step(row, table, k, s, j, &mut marks);
+                let Stepped::To(next) = found else {
+                    continue 'places;
+                };
+                j = next;
+            }
+        }
+        out[count] = p as u16;
+        count += 1;
+    }
+    count
+}
+
+// Is the pattern a root over one variable, twice?
+fn is_twin(pattern: &[u16]) -> bool
+    ensures { λ r. ⌜ (r ≡ true → Twin (now (pattern .entry))) ⌝ }
+{
+    if pattern.len() == 3 {
+        if pattern[2] == pattern[1] {
+            return rows::is_variable(pattern[1]);
+        }
+    }
+    false
+}
+
+// The same as `keep_matches` for such a pattern: the two subtrees at each place are compared, with no walk.
+fn keep_twins(
+    row: &[u16],
+    table: &[u16],
+    places: &[u16; STRETCH],
+    many: usize,
+    out: &mut [u16],
+    before: usize,
+) -> usize
+    requires { ⌜ Paired (now row) (now table) (now places) many × (many ≤ 64) × (length (now places) ≡ 64) × (before + many ≤ length (now out)) ⌝ }
+    ensures { λ r. ⌜ Kept (twins (now (row .entry)) (now (table .entry))) (take many (now (places .entry))) (now (out .entry)) before r (now (out .exit)) ⌝ }
+{
+    let mut count = before;
+    for i in 0..many {
+        let p = places[i];
+        let first = p as usize + 1;
+        if patterns::stands_twice(row, table, first, table[first] as usize) {
+            out[count] = p;
+            count += 1;
+        }
+    }
+    count
+}
+
+// The matches from `from` up to `to`, of a pattern whose root is a symbol, are written to `out` from place `before` on. Answers
+// the place behind them. Where the root alone is compared, each candidate is a match.
+fn list_within(
+    row: &[u16],
+    table: &[u16],
+    pattern: &[u16],
+    outline: Outline,
+    from: usize,
+    to: usize,
+    out: &mut [u16],
+    before: usize,
+) -> usize
+    requires { ⌜ Seekable (programme (now row) (now table)) (now pattern) outline × Stretched from to (length (now row)) × (before + (to - from) ≤ length (now out)) ⌝ }
+    ensures { λ r. ⌜ Kept (comesThrough (now (row .entry)) (now (table .entry)) (now (pattern .entry))) (range from (to - from)) (now (out .entry)) before r (now (out .exit)) ⌝ }
+{
+    let mut places = [0u16; STRETCH];
+    let many = write_candidates(row, table, pattern[0], outline.size, from, to, &mut places);
+    if outline.compared == 1 {
+        return keep_all(&places, many, out, before);
+    }
+    if is_twin(pattern) {
+        return keep_twins(row, table, &places, many, out, before);
+    }
+    keep_matches(
+        row,
+        table,
+        pattern,
+        outline.compared,
+        &places,
+        many,
+        out,
+        before,
+    )
 }
 
 // Is S or a variable all of the pattern? Then it matches everywhere.
@@ -190,40 +267,19 @@ pub fn first_match(row: &[u16], table: &[u16], pattern: &[u16]) -> Next
     if is_bare(pattern) {
         return Next::At(0);
     }
-    let outline = outline_of(pattern, row.len());
+    let outline = outline_of(pattern);
+    let mut found = [0u16; STRETCH];
     let mut p = 0;
     while p < row.len() {
-        let found = stride_from(row, table, pattern, outline, p);
-        match found {
-            Stride::At(n) => return Next::At(n),
-            Stride::On(n) => p = n,
+        let from = pass_over(row, pattern[0], p);
+        let to = rows::shorter(from + STRETCH, row.len());
+        let many = list_within(row, table, pattern, outline, from, to, &mut found, 0);
+        if 0 < many {
+            return Next::At(found[0] as usize);
         }
+        p = to;
     }
     Next::Nowhere
-}
-
-// How many matches there are.
-fn count_matches(row: &[u16], table: &[u16], pattern: &[u16]) -> usize
-    requires { ⌜ Searchable (programme (now row) (now table)) (now pattern) ⌝ }
-    ensures { λ r. ⌜ ((a : Alphabet) → Checked a (programme (now (row .entry)) (now (table .entry))) (now (pattern .entry)) → Counts a (now (row .entry)) (now (pattern .entry)) r) ⌝ }
-{
-    if is_bare(pattern) {
-        return row.len();
-    }
-    let outline = outline_of(pattern, row.len());
-    let mut count = 0;
-    let mut p = 0;
-    while p < row.len() {
-        let found = stride_from(row, table, pattern, outline, p);
-        match found {
-            Stride::At(n) => {
-                count += 1;
-                p = n + 1;
-            }
-            Stride::On(n) => p = n,
-        }
-    }
-    count
 }
 
 // The first n positions, at the front of `out`.
@@ -236,28 +292,23 @@ fn write_positions(n: usize, out: &mut [u16])
     }
 }
 
-// The matches, rising, at the front of `out`, which has room for them, and their number.
-fn write_matches(row: &[u16], table: &[u16], pattern: &[u16], out: &mut [u16]) -> usize
-    requires { ⌜ Searchable (programme (now row) (now table)) (now pattern) × RoomFor (programme (now row) (now table)) (now pattern) (length (now out)) ⌝ }
+// The matches, rising, at the front of `out`, which is as long as the row or longer, and their number.
+pub fn write_matches(row: &[u16], table: &[u16], pattern: &[u16], out: &mut [u16]) -> usize
+    requires { ⌜ Searchable (programme (now row) (now table)) (now pattern) × (length (now row) ≤ length (now out)) ⌝ }
     ensures { λ r. ⌜ ((a : Alphabet) → Checked a (programme (now (row .entry)) (now (table .entry))) (now (pattern .entry)) → Lists a (now (row .entry)) (now (pattern .entry)) (now (out .entry)) (All r) (now (out .exit))) ⌝ }
 {
     if is_bare(pattern) {
         write_positions(row.len(), out);
         return row.len();
     }
-    let outline = outline_of(pattern, row.len());
+    let outline = outline_of(pattern);
     let mut count = 0;
     let mut p = 0;
     while p < row.len() {
-        let found = stride_from(row, table, pattern, outline, p);
-        match found {
-            Stride::At(n) => {
-                out[count] = n as u16;
-                count += 1;
-                p = n + 1;
-            }
-            Stride::On(n) => p = n,
-        }
+        let from = pass_over(row, pattern[0], p);
+        let to = rows::shorter(from + STRETCH, row.len());
+        count = list_within(row, table, pattern, outline, from, to, out, count);
+        p = to;
     }
     count
 }
@@ -268,20 +319,45 @@ pub enum Listing {
     Needs(usize),
 }
 
-// The matches, rising, at the front of `out` if it has room for all of them; else nothing is written. Only a buffer shorter
-// than the row can be too short, and only there they are counted first.
+// The matches, rising, at the front of `out` if it has room for all of them; else nothing is written. They are gathered in `room`
+// first.
+fn list_by(
+    row: &[u16],
+    table: &[u16],
+    pattern: &[u16],
+    out: &mut [u16],
+    room: &mut [u16],
+) -> Listing
+    requires { ⌜ Searchable (programme (now row) (now table)) (now pattern) × (length (now row) ≤ length (now room)) ⌝ }
+    ensures { λ r. ⌜ ((a : Alphabet) → Checked a (programme (now (row .entry)) (now (table .entry))) (now (pattern .entry)) → Lists a (now (row .entry)) (now (pattern .entry)) (now (out .entry)) r (now (out .exit))) ⌝ }
+{
+    let count = write_matches(row, table, pattern, room);
+    if out.len() < count {
+        return Listing::Needs(count);
+    }
+    buffers::copy_into(out, &room[..count]);
+    Listing::All(count)
+}
+
+// The same. Only a buffer shorter than the row can be too short, and only there they are gathered first.
 pub fn list_matches(row: &[u16], table: &[u16], pattern: &[u16], out: &mut [u16]) -> Listing
     requires { ⌜ Searchable (programme (now row) (now table)) (now pattern) ⌝ }
     ensures { λ r. ⌜ ((a : Alphabet) → Checked a (programme (now (row .entry)) (now (table .entry))) (now (pattern .entry)) → Lists a (now (row .entry)) (now (pattern .entry)) (now (out .entry)) r (now (out .exit))) ⌝ }
 {
-    if out.len() < row.len() {
-        let count = count_matches(row, table, pattern);
-        if out.len() < count {
-            return Listing::Needs(count);
-        }
+    if row.len() <= out.len() {
+        let count = write_matches(row, table, pattern, out);
+        return Listing::All(count);
     }
-    let written = write_matches(row, table, pattern, out);
-    Listing::All(written)
+    if row.len() <= tables::SHORT {
+        let mut room = tables::short_room();
+        return list_by(row, table, pattern, out, &mut room);
+    }
+    if row.len() <= tables::MIDDLE {
+        let mut room = tables::middle_room();
+        return list_by(row, table, pattern, out, &mut room);
+    }
+    let mut room = tables::long_room();
+    list_by(row, table, pattern, out, &mut room)
 }
 
 // Begin and end of the subtree that a mark stands for.

@@ -5,7 +5,7 @@ use mathlib.Core.Path.{_≡_, sym, ap, ap₂, _∙_, subst}
 use mathlib.Core.List.{List, []}
 use mathlib.Core.Bool.{Bool, true, false}
 use native.Mathlib.Omega.{arith}
-use borrow.Author.Tests.{lt-ltb, le-ltb}
+use borrow.Author.Tests.{lt-ltb, le-ltb, eq-eqb}
 use lib.Dec.{T, ltb, eqb, ltb→lt, lt→ltb}
 use lib.ListN.{length, getD, drop, set}
 use lib.Seq.{drop-length}
@@ -27,7 +27,8 @@ use Rattle.rows.proofs.Accept.{enough, count-parse, lone, whole-of-row}
 use Rattle.rows.proofs.Behind.{behind-over, enough-behind, ends-behind}
 use Rattle.tables.specs.Given.{Sized, Sees}
 use Rattle.tables.specs.declared.Seen.the-variants.{Tree}
-use Rattle.tables.specs.Beside.{Standing, staleFrom, Passed}
+use Rattle.tables.specs.Beside.{Standing, staleFrom, Stands, Places, Passed}
+use Rattle.tables.specs.declared.Stood.the-variants.{To}
 use Rattle.tables.proofs.Standing.{standing-none, Turn, turn-end, turn-count, turn-standing}
 
 -- nothing is read yet
@@ -37,9 +38,7 @@ passed-none A w t l =
     let nothing : [] ≡ drop (length w) w = sym (drop-length w) in
     let none : (0 ≡ count (behind A w (length w))) × Standing l (length w) (behind A w (length w)) = standing-none A w l (length w) in
     record {
-      ranked = subst (λ (x : List ℕ). Ranked A (allowed Symbols A) (parse A x)) nothing tt;
-      counted = none .0;
-      standing = none .1;
+      stands = record { ranked = subst (λ (x : List ℕ). Ranked A (allowed Symbols A) (parse A x)) nothing tt; counted = none .0; standing = none .1 };
       told = λ whose. ap (λ (x : List ℕ). differs whose (length w) (ends (length w) (parse A x)) (drop (length w) t)) (drop-length w) ∙ simp (le-ltb (length w) (length w) (omega arith));
     }
 
@@ -60,40 +59,59 @@ chosen : (whose : Kept → Refusal) (b : Bool) (n stale p : ℕ) (c : Check) →
 chosen whose true n stale p c h e = e
 chosen whose false n stale p c h e = sym (simp (lt-ltb p n h))
 
--- the symbol is read, and its entry is looked at
-pub passed-more : (A w t l : List ℕ) (trees stale p a : ℕ) → Sized w t → length w ≤ length l → p < length w
-    → Passed A w t l trees stale (p + 1) → getD w p 0 < length A → a ≡ getD A (getD w p 0) 0 → a ≤ trees
-    → Passed A w t (set l trees (p + 1)) (trees - a + 1) (pick (eqb (getD t p 0) (getD (set l trees (p + 1)) (trees - a) 0)) stale p) p
-unfolding over Ranked differs
-passed-more A w t l trees stale p a sized room below c symbol arity deep =
+-- the symbol is read
+pub stands-more : (A w l : List ℕ) (trees p a : ℕ) → length w ≤ length l → p < length w → Stands A w l trees (p + 1)
+    → getD w p 0 < length A → a ≡ getD A (getD w p 0) 0 → a ≤ trees
+    → Places A w p (set l trees (p + 1)) (To (trees - a + 1) (getD (set l trees (p + 1)) (trees - a) 0))
+unfolding over Ranked
+stands-more A w l trees p a room below c symbol arity deep =
     let g : Forest = behind A w (p + 1) in
     let k : ℕ = getD A (getD w p 0) 0 in
     let enough-trees : k ≤ count g = omega (arith, arity, deep, c .counted) in
     let one : T (ltb (getD w p 0) (length A)) = lt→ltb (getD w p 0) (length A) symbol in
     let turn : Turn A w l p p trees a =
-    record { below = below; room = room; counted = c .counted; standing = c .standing; arity = arity; deep = deep } in
+    record { below = below; room = room; counted = c .counted; standing = c .standing; arity = arity; deep = deep } in (
+      record {
+        ranked =
+            subst (Ranked A (allowed Symbols A)) (sym (behind-over A w p below))
+            (one, count-first k g enough-trees, ranked-first A (allowed Symbols A) k g (c .ranked), ranked-rest A (allowed Symbols A) k g (c .ranked));
+        counted = turn-count turn;
+        standing = turn-standing turn;
+      },
+      turn-end turn,
+    )
+
+-- and its entry is looked at
+pub passed-more : (A w t l m : List ℕ) (trees stale p more e : ℕ) → Sized w t → p < length w → Passed A w t l trees stale (p + 1)
+    → Places A w p m (To more e) → Passed A w t m more (pick (eqb (getD t p 0) e) stale p) p
+unfolding differs
+passed-more A w t l m trees stale p more e sized below c s =
+    let g : Forest = behind A w (p + 1) in
     record {
-      ranked =
-          subst (Ranked A (allowed Symbols A)) (sym (behind-over A w p below))
-          (one, count-first k g enough-trees, ranked-first A (allowed Symbols A) k g (c .ranked), ranked-rest A (allowed Symbols A) k g (c .ranked));
-      counted = turn-count turn;
-      standing = turn-standing turn;
+      stands = s .0;
       told = λ whose.
           ap₂ (differs whose p) (ends-behind A w p p below) (drop-more t p (omega (arith, sized .fits)))
-          ∙ chosen whose (eqb (getD t p 0) (p + 1 + size (first k g))) (length w) stale p (differs whose (p + 1) (ends (p + 1) g) (drop (p + 1) t)) below (c .told whose)
-          ∙ ap (λ (e : ℕ). staleFrom whose (length w) (pick (eqb (getD t p 0) e) stale p)) (sym (turn-end turn));
+          ∙ chosen whose (eqb (getD t p 0) (p + 1 + size (first (getD A (getD w p 0) 0) g))) (length w) stale p (differs whose (p + 1) (ends (p + 1) g) (drop (p + 1) t)) below (c .told whose)
+          ∙ ap (λ (n : ℕ). staleFrom whose (length w) (pick (eqb (getD t p 0) n) stale p)) (sym (s .1));
     }
+
+-- where no entry behind p is stale, and the one at p is not either
+pub agreed-more : (A w t l m : List ℕ) (trees p more e : ℕ) → Sized w t → p < length w → Passed A w t l trees (length w) (p + 1)
+    → Places A w p m (To more e) → getD t p 0 ≡ e → Passed A w t m more (length w) p
+agreed-more A w t l m trees p more e sized below c s same =
+    subst (λ (b : Bool). Passed A w t m more (pick b (length w) p) p) (eq-eqb _ _ same)
+    (passed-more A w t l m trees (length w) p more e sized below c s)
 
 -- the whole row is read: it is one tree's exactly if one tree is there
 pub stop-count : (A w t l : List ℕ) (trees stale : ℕ) → Passed A w t l trees stale 0 → (trees ≡ 1 → ⊥) → Accepted A w → ⊥
 unfolding behind
-stop-count A w t l trees stale c n e = n (c .counted ∙ count-parse A (allowed Symbols A) w 1 0 e)
+stop-count A w t l trees stale c n e = n (c .stands .counted ∙ count-parse A (allowed Symbols A) w 1 0 e)
 
 pub passed-all : (A w t l : List ℕ) (trees stale : ℕ) → Passed A w t l trees stale 0 → trees ≡ 1 → Sees A w t (Tree stale)
 unfolding behind fresh table
 passed-all A w t l trees stale c one =
-    let it = lone (parse A w) (sym (c .counted) ∙ one) in
+    let it = lone (parse A w) (sym (c .stands .counted) ∙ one) in
     let whole : Accepted A w =
     whole-of-row A (allowed Symbols A) w
-    (record { tree = it .0; ranked = subst (Ranked A (allowed Symbols A)) (it .1) (c .ranked); reads = ap prefix (sym (it .1)) ∙ prefix-parse A w }) in
+    (record { tree = it .0; ranked = subst (Ranked A (allowed Symbols A)) (it .1) (c .stands .ranked); reads = ap prefix (sym (it .1)) ∙ prefix-parse A w }) in
     (whole, c .told)

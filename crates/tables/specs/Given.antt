@@ -16,13 +16,21 @@ use Rattle.rows.specs.declared.Refusal.{Refusal}
 use Rattle.rows.specs.declared.Check.the-variants.{Fine, Refused}
 use Rattle.tables.specs.declared.Seen.{Seen}
 use Rattle.tables.specs.declared.Seen.the-variants.{NoTree, Tree}
+use Rattle.tables.specs.declared.Asked.{Asked}
+use Rattle.tables.specs.declared.Asked.the-variants.{Right as OnlyRight, First}
 
--- a row of at most so many symbols is short, and of middle length: the ends of its trees are kept in less room
+-- a row of at most so many symbols is tiny, short, fair, and of middle length: the ends of its trees are kept in less room
+abbrev pub tiny : ℕ
+tiny = 64
+
 abbrev pub short : ℕ
-short = 256
+short = 512
+
+abbrev pub fair : ℕ
+fair = 1024
 
 abbrev pub middle : ℕ
-middle = 2048
+middle = 4096
 
 -- a row within the sizes, and a table with room for it
 pub record Sized (w t : List ℕ) : Type 0 where
@@ -46,3 +54,9 @@ pub record Fillable (A w t : List ℕ) (at : ℕ) : Type 0 where
 abbrev pub Sees : List ℕ → List ℕ → List ℕ → Seen → Type 0
 Sees A w t NoTree = Accepted A w → ⊥
 Sees A w t (Tree k) = Accepted A w × ((whose : Kept → Refusal) → fresh whose A w t ≡ pick (ltb k (length w)) (Refused (whose (Stale k))) Fine)
+
+-- what is answered to what is asked: where only that all is right was asked, another answer says nothing
+abbrev pub Answers : List ℕ → List ℕ → List ℕ → Asked → Seen → Type 0
+Answers A w t First r = Sees A w t r
+Answers A w t OnlyRight NoTree = Unit {0}
+Answers A w t OnlyRight (Tree k) = Sees A w t (Tree k)

@@ -2,12 +2,12 @@
 -- Assumes nothing.
 use Prim.Native.Nat.{ℕ, zero, suc, _+_, _*_, _/_, _%_, _≤_, _<_}
 use mathlib.Core.Path.{_≡_, refl, sym, ap, ap₂, _∙_}
-use mathlib.Core.List.{List, [], _∷_, _++_, append-nil}
+use mathlib.Core.List.{List, [], _∷_, _++_}
 use native.Mathlib.Nat.{zero-add}
 use native.Mathlib.Numerals.{add-one}
 use native.Mathlib.Omega.{arith}
-use lib.ListN.{length, getD, set, take, drop, length-set, drop-of-length-le}
-use lib.Seq.{length-take-le}
+use lib.ListN.{length, getD, set, take, drop, length-set}
+use lib.Seq.{length-take-le, take-at}
 use Rattle.rows.specs.Buffers.{written}
 use Rattle.wire.specs.Wire.{numbers, bytesOf, withNumber, Bytes}
 
@@ -56,9 +56,13 @@ next (x ∷ xs) (y ∷ ys) (suc i) h k = ap (λ (l : List ℕ). x ∷ l) (next x
 pub read-more : (ns out : List ℕ) (i : ℕ) → i < length ns → i < length out → set (take i ns ++ drop i out) i (getD ns i 0) ≡ take (i + 1) ns ++ drop (i + 1) out
 read-more ns out i h k = rw add-one (next ns out i h k)
 
--- the list is full
-pub read-all : (ns out : List ℕ) (i : ℕ) → length out ≤ i → take i ns ++ drop i out ≡ take i ns
-read-all ns out i h = ap (λ (l : List ℕ). take i ns ++ l) (drop-of-length-le out h) ∙ append-nil (take i ns)
+-- the first n stand at the front, and are read there
+pub read-front : (ns out : List ℕ) (n : ℕ) → n ≤ length ns → take n ns ++ drop n out ≡ written out 0 (take n ns)
+unfolding written
+read-front ns out n h = ap (λ (m : ℕ). take n ns ++ drop m out) (sym (zero-add (length (take n ns)) ∙ length-take-le n ns h))
+
+pub front-read : (ns out : List ℕ) (n : ℕ) → n ≤ length ns → take n (written out 0 (take n ns)) ≡ take n ns
+front-read ns out n h = ap (take n) (sym (read-front ns out n h)) ∙ take-at (take n ns) (drop n out) n (length-take-le n ns h)
 
 -- a store keeps the number of bytes
 pub with-length : (bs : List ℕ) (i v : ℕ) → length (withNumber bs i v) ≡ length bs

@@ -36,14 +36,14 @@ pub fn put_number(bytes: &mut [u8], i: usize, v: u16)
     bytes[2 * i + 1] = (v / 256) as u8;
 }
 
-// Fills `out` with the first numbers of `bytes`.
-pub fn decode(bytes: &[u8], out: &mut [u16])
-    requires { ⌜ length (now out) ≤ length (numbers (now bytes)) ⌝ }
-    ensures { λ _. ⌜ now (out .exit) ≡ take (length (now (out .entry))) (numbers (now (bytes .entry))) ⌝ }
+// The first n numbers of `bytes`, at the front of `room`; later places stay.
+pub fn decode(bytes: &[u8], n: usize, room: &mut [u16])
+    requires { ⌜ (n ≤ length (numbers (now bytes))) × (n ≤ length (now room)) ⌝ }
+    ensures { λ _. ⌜ now (room .exit) ≡ written (now (room .entry)) 0 (take n (numbers (now (bytes .entry)))) ⌝ }
 {
     let mut i = 0;
-    while i < out.len() {
-        out[i] = number_at(bytes, i);
+    while i < n {
+        room[i] = number_at(bytes, i);
         i += 1;
     }
 }

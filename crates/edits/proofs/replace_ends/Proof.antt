@@ -30,8 +30,8 @@ sub-rest c = search needs
 move-ends-requires : tie.Need-move-ends-requires
 move-ends-requires c κs = search needs
 
-fill-ends-requires : tie.Need-fill-ends-requires
-fill-ends-requires c κs = search needs
+fill-beside-requires : tie.Need-fill-beside-requires
+fill-beside-requires c κs = let s = c .before .before .before .before .before .before .before .before .before .before in (search needs, s .pre .0 .1)
 
 add-fill : tie.Need-add-fill
 add-fill c = search needs
@@ -42,11 +42,14 @@ fill-requires c κs = search needs
 same-length : tie.Need-same-length
 same-length c = search needs
 
+same-length-2 : tie.Need-same-length-2
+same-length-2 c = search needs
+
 returns : tie.Need-returns
 returns c =
-    let at-fill-ends = c .before .before .before .before .before .before in
-    let at-move-ends = c .before .before .before .before .before .before .before .before .before .before in
-    let s = c .before .before .before .before .before .before .before .before .before .before .before .before .before .before .before in
+    let at-fill = c .before .before .before .before .before .before .before .before in
+    let at-move-ends = c .before .before .before .before .before .before .before .before .before .before .before .before .before in
+    let s = c .before .before .before .before .before .before .before .before .before .before .before .before .before .before .before .before .before .before .before in
     let t = now (s .args .table) in
     let v = now (s .args .v) in
     let n = s .args .n in
@@ -55,12 +58,12 @@ returns c =
     let to : ℕ = p + length v in
     let new : List ℕ = ends p (parse (now (s .args .arities)) v) in
     let tail : List ℕ = map (shifted e to) (take (n - e) (drop e t)) in
-    let m = s .pre .0 in
+    let m = s .pre .0 .0 in
     let lv : length new ≡ length v = length-ends p (parse (now (s .args .arities)) v) ∙ size-parse (now (s .args .arities)) v in
     let lt : length tail ≡ n - e = length-map (take (n - e) (drop e t)) (shifted e to) ∙ length-tail t n p e to m in
     rw (
       c .before .before .fill .ensures,
-      at-fill-ends .fill-ends .ensures,
+      at-fill .fill-beside .ensures,
       at-move-ends .move-ends .ensures,
     )
     (renewed-parts t n 0 p to (to + (n - e)) (map (moved e to) (take p t)) new tail (length-before t n p e to m) (omega arith) (omega arith) (omega arith) (omega arith)
@@ -73,8 +76,9 @@ replace-ends-spec =
     add-to
     sub-rest
     move-ends-requires
-    fill-ends-requires
+    fill-beside-requires
     add-fill
     fill-requires
     same-length
+    same-length-2
     returns)

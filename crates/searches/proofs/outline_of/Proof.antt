@@ -7,11 +7,11 @@ use Rattle.searches.proofs.outline_of.Tie as tie
 count-compared-requires : tie.Need-count-compared-requires
 count-compared-requires c κs = search needs
 
-most-symbols-requires : tie.Need-most-symbols-requires
-most-symbols-requires c κs = search needs
+size-of-requires : tie.Need-size-of-requires
+size-of-requires c κs = search needs
 
 returns : tie.Need-returns
-returns c P h = record { compared = c .before .count-compared .ensures; most = c .most-symbols .ensures P h }
+returns c P = record { compared = c .before .count-compared .ensures; size = c .size-of .ensures P }
 
 pub outline-of-spec : {M : Type 1} → statement M
-outline-of-spec = tie.close (tie.spec count-compared-requires most-symbols-requires returns)
+outline-of-spec = tie.close (tie.spec count-compared-requires size-of-requires returns)

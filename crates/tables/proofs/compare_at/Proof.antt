@@ -1,114 +1,63 @@
--- `tables::compare_at` meets its contract: the symbol and its entry are a turn of the pass.
+-- `tables::compare_at` meets its contract: the symbol is read, and its entry is looked at.
 -- Assumes nothing.
--- no more trees stand behind p than symbols
-use Prim.Native.Nat.{ℕ, _≤_, _+_, _-_}
-use native.Mathlib.Omega.{arith}
-use mathlib.Core.Path.{refl, sym, subst}
-use lib.ListN.{length, getD, set, length-set}
-use Rattle.tables.specs.Beside.{Passed}
-use Rattle.tables.proofs.Standing.{few-behind}
-use Rattle.tables.proofs.Pass.{stop-stray, stop-few, passed-more}
+use Prim.Native.Nat.{ℕ}
+use mathlib.Core.Path.{sym, subst}
+use Rattle.tables.specs.Beside.{Places, Passed}
+use Rattle.tables.proofs.Pass.{passed-more}
 use borrow.Author.Needs.{needs}
 use Rattle.tables.proofs.compare_at.Statement.{statement}
 use Rattle.tables.proofs.compare_at.Tie as tie
 
-few : (s : tie.Start) → s .args .trees + (s .args .p + 1) ≤ length (s .args .row .now)
-few s = omega (arith, s .pre .1 .counted, few-behind (s .args .arities .now) (s .args .row .now) (s .args .p + 1) (omega (arith, s .pre .0 .2)))
+stand-at-requires : tie.Need-stand-at-requires
+stand-at-requires c κs = search needs
 
-add-standing : tie.Need-add-standing
-add-standing c = search needs
+enum-known-stood : tie.Need-enum-known-stood
+enum-known-stood c = search needs
 
-cast-standing : tie.Need-cast-standing
-cast-standing c = search needs
-
-mul-standing : tie.Need-mul-standing
-mul-standing c = let s = c .before .before .before .before in omega (arith, few s, s .pre .0 .0 .most)
-
-slice-write-standing : tie.Need-slice-write-standing
-slice-write-standing c = let s = c .before .before .before .before in omega (arith, few s, s .pre .0 .1)
-
-mul-s : tie.Need-mul-s
-mul-s c = search needs
-
-shared-slice-read-s : tie.Need-shared-slice-read-s
-shared-slice-read-s c = search needs
-
-cast-s : tie.Need-cast-s
-cast-s c = omega (arith, c .shared-slice-known4 .given (c .before .before .before .before .before .args .p))
+enum-told : tie.Need-enum-told
+enum-told c = search needs
 
 same-length : tie.Need-same-length
 same-length c = search needs
 
 returns : tie.Need-returns
-returns c = let s = c .before .before .before .before .before .before in stop-stray (s .args .arities .now) (s .args .row .now) (s .args .p) (s .pre .0 .2) (c .if1 .taken)
-
-mul-a : tie.Need-mul-a
-mul-a c = search needs
-
-shared-slice-read-a : tie.Need-shared-slice-read-a
-shared-slice-read-a c = search needs
-
-cast-a : tie.Need-cast-a
-cast-a c = let a = c .before .before .before .before .before .before .before .args in omega (arith, c .shared-slice-known5 .given (getD (a .row .now) (a .p) 0))
-
-same-length-2 : tie.Need-same-length-2
-same-length-2 c = search needs
-
-returns-2 : tie.Need-returns-2
-returns-2 c = let s = c .before .before .before .before .before .before .before .before in stop-few (s .args .arities .now) (s .args .row .now) (s .args .trees) (s .args .p) (s .pre .0 .2) (s .pre .1 .counted) (c .if2 .taken)
+returns c =
+    let a = c .before .before .before .before .before .before .before .before .before .before .args in
+    subst (Places (a .arities .now) (a .row .now) (a .p) (c .before .before .before .before .stand-at .last .1 .1 .0)) (c .enum-told .given .1) (c .before .before .before .before .stand-at .ensures)
 
 mul-first-stale : tie.Need-mul-first-stale
 mul-first-stale c = search needs
 
 shared-slice-read-first-stale : tie.Need-shared-slice-read-first-stale
-shared-slice-read-first-stale c = let s = c .before .before .before .before .before .before .before .before .before in omega (arith, s .pre .0 .2, s .pre .0 .0 .fits)
-
-mul-first-stale-2 : tie.Need-mul-first-stale-2
-mul-first-stale-2 c = let s = c .before .before .before .before .before .before .before .before .before in omega (arith, few s, s .pre .0 .0 .most)
-
-slice-read-first-stale : tie.Need-slice-read-first-stale
-slice-read-first-stale c = let s = c .before .before .before .before .before .before .before .before .before .before in simp length-set (omega (arith, few s, s .pre .0 .1))
+shared-slice-read-first-stale c = search needs
 
 first-stale-requires : tie.Need-first-stale-requires
 first-stale-requires c κs = search needs
 
-add-t11 : tie.Need-add-t11
-add-t11 c = let s = c .before .before .before .before .before .before .before .before .before .before .before in omega (arith, few s, s .pre .0 .0 .most)
+same-length-2 : tie.Need-same-length-2
+same-length-2 c = search needs
 
-same-length-3 : tie.Need-same-length-3
-same-length-3 c = search needs
-
-returns-3 : tie.Need-returns-3
-returns-3 c =
-    let s = c .before .before .before .before .before .before .before .before .before .before .before in
+returns-2 : tie.Need-returns-2
+returns-2 c =
+    let x = c .before .before .before in
+    let s = c .before .before .before .before .before .before .before .before .before .before .before .before .before in
     let a = s .args in
-    let k : ℕ = getD (a .arities .now) (getD (a .row .now) (a .p) 0) 0 in
-    subst (λ (n : ℕ). Passed (a .arities .now) (a .row .now) (a .table .now) (set (a .standing .now) (a .trees) (a .p + 1)) (a .trees - k + 1) n (a .p)) (sym (c .first-stale .ensures))
-    (passed-more (a .arities .now) (a .row .now) (a .table .now) (a .standing .now) (a .trees) (a .stale) (a .p) k (s .pre .0 .0) (s .pre .0 .1) (s .pre .0 .2) (s .pre .1) (c .before .before .before .before .before .if1 .left) refl (c .before .before .before .if2 .left))
+    let m = c .before .before .before .before .before .before .before .stand-at .last .1 .1 .0 in
+    let places = subst (Places (a .arities .now) (a .row .now) (a .p) m) (x .stood .given .1) (c .before .before .before .before .before .before .before .stand-at .ensures) in
+    subst (λ (n : ℕ). Passed (a .arities .now) (a .row .now) (a .table .now) m (x .stood .given .0 .0) n (a .p)) (sym (c .first-stale .ensures))
+    (passed-more (a .arities .now) (a .row .now) (a .table .now) (a .standing .now) m (a .trees) (a .stale) (a .p) _ _ (s .pre .0 .0) (s .pre .0 .2) (s .pre .1) places)
 
 pub compare-at-spec : {M : Type 1} → statement M
 compare-at-spec =
     tie.close
     (tie.spec
-    add-standing
-    cast-standing
-    mul-standing
-    slice-write-standing
-    mul-s
-    shared-slice-read-s
-    cast-s
+    stand-at-requires
+    enum-known-stood
+    enum-told
     same-length
     returns
-    mul-a
-    shared-slice-read-a
-    cast-a
-    same-length-2
-    returns-2
     mul-first-stale
     shared-slice-read-first-stale
-    mul-first-stale-2
-    slice-read-first-stale
     first-stale-requires
-    add-t11
-    same-length-3
-    returns-3)
+    same-length-2
+    returns-2)

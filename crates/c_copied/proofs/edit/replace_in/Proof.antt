@@ -1,132 +1,99 @@
--- `c_copied::replace_in` meets its contract. What the call leaves in the copies is written back, and stands before what was not copied.
+-- `c_copied::replace_in` meets its contract. What the pass over the copies finds decides, or the replacement goes on.
 -- Assumes nothing.
--- the call on the copies
-use Prim.Native.Nat.{ℕ, _≤_, min}
-use mathlib.Core.Path.{sym, ap, _∙_}
-use lib.ListN.{take, drop, length-append, length-take}
-use lib.Seq.{length-take-le}
-use mir.Syntax.{w32}
-use mir.Facts.{toZ-ofZ}
-use Rattle.rows.specs.Limits.{rowMost}
-use Rattle.rows.specs.Programme.{alphabetOf, programme}
-use Rattle.c_lent.specs.Lent.{lent}
-use Rattle.c_copied.proofs.Copying.{copy-length}
-use Rattle.c_copied.proofs.Editing.{Edited, edited-refused, edited-done}
+use Prim.Native.Nat.{ℕ}
+use mathlib.Core.Path.{_≡_, sym, ap, ap₂, _∙_}
+use mathlib.Core.List.{List}
 use native.Mathlib.Omega.{arith}
+use lib.ListN.{length, take}
+use lib.Seq.{length-take-le, take-take}
+use Rattle.rows.specs.Programme.{Alphabet, Programme, alphabetOf, room}
+use Rattle.rows.specs.Refusals.{_then_, symbols, fresh, keeps, given, replacement, position, grown}
+use Rattle.rows.specs.Tree.{size}
+use Rattle.rows.specs.declared.Keeping.{Keeping}
+use Rattle.rows.specs.declared.Keeping.the-variants.{Sound, Unsound}
+use Rattle.rows.specs.declared.Refusal.the-variants.{Row}
+use Rattle.rows.specs.declared.Check.{Check}
+use Rattle.rows.specs.declared.Check.the-variants.{Fine}
+use Rattle.rows.proofs.Passing.{Fits}
+use Rattle.checks.specs.Checks.{replaceCheck}
+use Rattle.wire.specs.Wire.{numbers}
+use Rattle.sparrowhem.specs.Edit.{newTree}
+use Rattle.c_lent.specs.Lent.{Lent, lent, AreBytes, numbersOf}
+use Rattle.c_copied.proofs.Checks.{sizes-left, given-goes-on}
+use Rattle.c_copied.proofs.Cut.{ends-cut}
+use Rattle.c_copied.proofs.Editing.{replaced-refused}
 use borrow.Author.Needs.{needs}
 use Rattle.c_copied.proofs.edit.replace_in.Statement.{statement}
 use Rattle.c_copied.proofs.edit.replace_in.Tie as tie
 
-module _ (f : tie.After-replace) where
-  abbrev first : tie.After-row-of
-  first = f .before .before .before .before .before
+-- what the call is lent, and what the checks of the sizes leave
+module _ (s : tie.Start) where
+  abbrev a : Alphabet
+  a = alphabetOf (s .args .arities .now)
 
-  abbrev second : tie.After-row-of2
-  second = f .before .before .before
+  abbrev b : Lent
+  b = lent (s .args .row .now) (s .args .table .now)
 
-  abbrev sizes : tie.After-shorter2
-  sizes = first .before .before
+  abbrev n : ℕ
+  n = s .args .n
 
-  abbrev size : tie.After-shorter
-  size = sizes .before .before .before
+  fits : Fits n (room (numbersOf b))
+  fits = sizes-left a (numbersOf b) n (s .pre .0)
 
-  abbrev start : tie.Start
-  start = size .before .before .before .before .before .before .before
+told : (c : tie.After-check-beside) (k : Keeping) → c .check-beside .result ≡ k → (let s = c .before .before .before .before .before .before .before .before .before .before .before .before in given (a s) (numbersOf (b s)) (n s) ≡ keeps Row k)
+told c k e =
+    let s = c .before .before .before .before .before .before .before .before .before .before .before .before in
+    let w = s .args .w .now in
+    let t = s .args .t .now in
+    let P : Programme = numbersOf (b s) in
+    given-goes-on (a s) P (n s) Fine (s .pre .0)
+    ∙ sym (ends-cut (a s .arities) (P .row) (P .table) w (take (n s) t) (n s) (s .pre .1 .0 .row) (take-take (n s) (n s) t (omega arith) ∙ s .pre .1 .0 .table))
+    ∙ sym (c .check-beside .ensures Row)
+    ∙ ap (keeps Row) e
 
-  abbrev k : ℕ
-  k = size .shorter .result
+slice-reshare-prefix-check-beside : tie.Need-slice-reshare-prefix-check-beside
+slice-reshare-prefix-check-beside c = let s = c .before .before .before .before .before .before .before .before in omega (arith, fits s .most, s .pre .1 .1 .row)
 
-  abbrev j : ℕ
-  j = sizes .shorter2 .result
+slice-aggregate-check-beside : tie.Need-slice-aggregate-check-beside
+slice-aggregate-check-beside c = sym (length-take-le _ _ (slice-reshare-prefix-check-beside (c .before)))
 
-  most : (k ≤ rowMost) × (j ≤ rowMost)
-  most = omega (arith, size .shorter .ensures, sizes .shorter2 .ensures)
+slice-reshare-prefix-check-beside-2 : tie.Need-slice-reshare-prefix-check-beside-2
+slice-reshare-prefix-check-beside-2 c = let s = c .before .before .before .before .before .before .before .before .before in omega (arith, fits s .most, s .pre .1 .1 .table)
 
-  abbrev edited : Edited (alphabetOf (start .args .arities .now)) (lent (start .args .row .now) (start .args .table .now)) (start .args .n) (start .args .replacement .now) (start .args .position)
-  edited = record {
-    k = k;
-    j = j;
-    copies = programme (take k (first .row-of .result)) (take j (second .row-of2 .result));
-    left = programme (f .replace .last .1 .0) (f .replace .last .1 .1 .0);
-    result = f .replace .result;
-    copyable = start .pre;
-    k-is = size .shorter .ensures ∙ ap (λ (m : ℕ). min m rowMost) (size .before .count .ensures);
-    j-is = sizes .shorter2 .ensures ∙ ap (λ (m : ℕ). min m rowMost) (sizes .before .count2 .ensures);
-    row-is = first .row-of .ensures .front;
-    table-is = second .row-of2 .ensures .front;
-    row-kept = f .replace .kept .1 .0 ∙ copy-length (first .row-of .ensures) (most .0);
-    table-kept = f .replace .kept .1 .1 .0 ∙ copy-length (second .row-of2 .ensures) (most .1);
-    small = let s = size .before .before .before .before in record { row = λ i. s .before .slice-known .given i .fits; table = λ i. s .slice-known2 .given i .fits };
-    edit = f .replace .ensures;
-  }
+slice-aggregate-check-beside-2 : tie.Need-slice-aggregate-check-beside-2
+slice-aggregate-check-beside-2 c = sym (length-take-le _ _ (slice-reshare-prefix-check-beside-2 (c .before)))
 
--- the call that is written back from
-abbrev written-from : tie.After-known-told2 → tie.After-replace
-written-from c = c .before .before .before .before .before
+check-beside-requires : tie.Need-check-beside-requires
+check-beside-requires c κs =
+    let s = c .before .before .before .before .before .before .before .before .before .before .before in
+    let x = slice-aggregate-check-beside (c .before .before) in
+    let y = slice-aggregate-check-beside-2 (c .before) in
+    (record { most = omega (arith, x, fits s .most); fits = omega (arith, x, y) }, omega (arith, x, fits s .most, s .pre .1 .1 .ends))
 
-count-requires : tie.Need-count-requires
-count-requires c κs = search needs
-
-shorter-requires : tie.Need-shorter-requires
-shorter-requires c κs = search needs
-
-count-requires-2 : tie.Need-count-requires-2
-count-requires-2 c κs = search needs
-
-shorter-requires-2 : tie.Need-shorter-requires-2
-shorter-requires-2 c κs = search needs
-
-row-of-requires : tie.Need-row-of-requires
-row-of-requires c κs = search needs
-
-row-of-requires-2 : tie.Need-row-of-requires-2
-row-of-requires-2 c κs = search needs
-
-array-borrow-prefix-w : tie.Need-array-borrow-prefix-w
-array-borrow-prefix-w c = search needs
-
-slice-aggregate-replace : tie.Need-slice-aggregate-replace
-slice-aggregate-replace c = simp length-take (omega arith)
-
-array-borrow-prefix-t : tie.Need-array-borrow-prefix-t
-array-borrow-prefix-t c = search needs
-
-slice-aggregate-replace-2 : tie.Need-slice-aggregate-replace-2
-slice-aggregate-replace-2 c = simp length-take (omega arith)
-
-replace-requires : tie.Need-replace-requires
-replace-requires c κs = search needs
-
-enum-known-r : tie.Need-enum-known-r
-enum-known-r c = search needs
+enum-known-k : tie.Need-enum-known-k
+enum-known-k c = search needs
 
 refusal-of-requires : tie.Need-refusal-of-requires
 refusal-of-requires c κs = search needs
 
-enum-known-length : tie.Need-enum-known-length
-enum-known-length c = search needs
+enum-told : tie.Need-enum-told
+enum-told c = search needs
 
-array-share-prefix-w : tie.Need-array-share-prefix-w
-array-share-prefix-w c = simp length-append (omega (arith, edited (written-from c) .row-kept))
-
-slice-aggregate-encode : tie.Need-slice-aggregate-encode
-slice-aggregate-encode c = sym (length-take-le _ _ (array-share-prefix-w (c .before)))
-
-encode-requires : tie.Need-encode-requires
-encode-requires c κs = omega (arith, slice-aggregate-encode (c .before), edited (written-from (c .before .before)) .k-is)
-
-array-share-prefix-t : tie.Need-array-share-prefix-t
-array-share-prefix-t c = simp length-append (omega (arith, edited (written-from (c .before .before .before .before .before)) .table-kept))
-
-slice-aggregate-encode-2 : tie.Need-slice-aggregate-encode-2
-slice-aggregate-encode-2 c = sym (length-take-le _ _ (array-share-prefix-t (c .before)))
-
--- what was known before the row was written back
-abbrev told : tie.After-encode-arg2 → tie.After-known-told2
-told c = c .before .before .before .before .before .before .before
-
-encode-requires-2 : tie.Need-encode-requires-2
-encode-requires-2 c κs = omega (arith, slice-aggregate-encode-2 (c .before), edited (written-from (told c)) .j-is)
+replace-by-requires : tie.Need-replace-by-requires
+replace-by-requires c κs =
+    let s = c .before .before .before .before .before .before .before .before .before .before .before .before .before .before .before .before .before .before .before .before .before .before in
+    let r = s .pre .1 .1 in (
+      told (c .before .before .before .before .before .before .before .before .before .before) Sound (c .before .before .before .before .before .before .enum-told .given .1),
+      (
+        s .pre .1 .0,
+        record {
+          row = r .row;
+          table = r .table;
+          replacement = r .replacement;
+          ends = omega (arith, r .ends, c .before .before .before .before .before .before .before .before .before .before .check-beside .kept);
+        },
+      ),
+    )
 
 same-length : tie.Need-same-length
 same-length c = search needs
@@ -134,55 +101,63 @@ same-length c = search needs
 same-length-2 : tie.Need-same-length-2
 same-length-2 c = search needs
 
-returns : tie.Need-returns
-returns c =
-    let r = c .before .before in
-    edited-refused (edited (r .before .before .before .before)) (r .r .given .0 .0) (r .r .given .1) (c .refusal-of .result) (c .refusal-of .ensures)
-
 same-length-3 : tie.Need-same-length-3
 same-length-3 c = search needs
+
+returns : tie.Need-returns
+unfolding replaceCheck
+returns c =
+    let s = c .before .before .before .before .before .before .before .before .before .before .before .before .before .before .before .before .before .before in
+    let k = c .before .before .k .given .0 .0 in
+    let v = numbers (s .args .replacement .now) in
+    let P : Programme = numbersOf (b s) in
+    let small : AreBytes (b s) = record { row = λ i. c .before .before .before .before .before .before .before .before .before .before .before .before .before .before .before .before .slice-known .given i .fits; table = λ i. c .before .before .before .before .before .before .before .before .before .before .before .before .before .before .before .slice-known2 .given i .fits } in
+    replaced-refused (a s) (b s) (n s) v (s .args .p) small (c .refusal-of .result) (Row k)
+    (ap (λ (g : Check). g then replacement (a s .arities) v then position (n s) (s .args .p) then grown (size (newTree (a s) P (n s) v (s .args .p))) (room P)) (told (c .before .before .before .before .before .before) (Unsound k) (c .before .before .k .given .1)))
+    (c .refusal-of .ensures)
 
 same-length-4 : tie.Need-same-length-4
 same-length-4 c = search needs
 
+same-length-5 : tie.Need-same-length-5
+same-length-5 c = search needs
+
+same-length-6 : tie.Need-same-length-6
+same-length-6 c = search needs
+
+same-length-7 : tie.Need-same-length-7
+same-length-7 c = search needs
+
+same-length-8 : tie.Need-same-length-8
+same-length-8 c = search needs
+
+same-length-9 : tie.Need-same-length-9
+same-length-9 c = search needs
+
 returns-2 : tie.Need-returns-2
-returns-2 c =
-    let second-back = c .before .before in
-    let first-back = second-back .before .before .before .before .before in
-    let known = first-back .before .before .before in
-    let done = known .before .length .given in
-    let f = written-from known in
-    rw (toZ-ofZ {w = w32} {z = done .0 .1 .0} (record { sfits = known .known-told2 .given .1 .0 .1 }))
-    (edited-done (edited f) (done .0 .0) (done .0 .1 .0) (done .1) (drop (k f) (first f .row-of .result)) (drop (j f) (second f .row-of2 .result))
-    (lent (first-back .encode .last .1 .0) (second-back .encode2 .last .1 .0)) (first-back .encode .ensures) (second-back .encode2 .ensures))
+returns-2 c = search needs
 
 pub replace-in-spec : {M : Type 1} → statement M
 replace-in-spec =
     tie.close
     (tie.spec
-    count-requires
-    shorter-requires
-    count-requires-2
-    shorter-requires-2
-    row-of-requires
-    row-of-requires-2
-    array-borrow-prefix-w
-    slice-aggregate-replace
-    array-borrow-prefix-t
-    slice-aggregate-replace-2
-    replace-requires
-    enum-known-r
+    slice-reshare-prefix-check-beside
+    slice-aggregate-check-beside
+    slice-reshare-prefix-check-beside-2
+    slice-aggregate-check-beside-2
+    check-beside-requires
+    enum-known-k
     refusal-of-requires
-    enum-known-length
-    array-share-prefix-w
-    slice-aggregate-encode
-    encode-requires
-    array-share-prefix-t
-    slice-aggregate-encode-2
-    encode-requires-2
+    enum-told
+    replace-by-requires
     same-length
     same-length-2
-    returns
     same-length-3
+    returns
     same-length-4
+    same-length-5
+    same-length-6
+    same-length-7
+    same-length-8
+    same-length-9
     returns-2)

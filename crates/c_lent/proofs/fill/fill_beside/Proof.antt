@@ -26,9 +26,9 @@ Inv-loop arities row table₀ standing₀ trees₀ p₀ table standing trees p =
     (p ≤ length (numbers row))
     × (length standing ≡ length standing₀)
     × (trees + p ≤ length (numbers row))
-    × (trees ≡ count (behind (numbers arities) (numbers row) p))
-    × Standing standing p (behind (numbers arities) (numbers row) p)
-    × (numbers table ≡ partly (numbers arities) (numbers row) (numbers table₀) 0 p)
+    × (trees ≡ count (behind arities (numbers row) p))
+    × Standing standing p (behind arities (numbers row) p)
+    × (numbers table ≡ partly arities (numbers row) (numbers table₀) 0 p)
     × (table ≡ written table₀ 0 (bytesOf (numbers table)))
     × (length table ≡ length table₀)
 
@@ -46,7 +46,7 @@ abbrev q : Here → ℕ
 q c = c .before .before .before .loop .p - 1
 
 abbrev A : Here → List ℕ
-A c = numbers (start c .args .arities .now)
+A c = start c .args .arities .now
 
 abbrev W : Here → List ℕ
 W c = numbers (start c .args .row .now)
@@ -106,7 +106,7 @@ count-requires c κs = search needs
 loop-holds : tie.Need-loop-holds Inv-loop μ-loop
 loop-holds c =
     let a = c .before .before .before .before .before .args in
-    let A₀ = numbers (a .arities .now) in
+    let A₀ = a .arities .now in
     let W₀ = numbers (a .row .now) in
     let all = sym (c .count .ensures) in
     let none = standing-none A₀ W₀ (a .standing .now) (length W₀) in (
@@ -195,8 +195,8 @@ returns c =
     let done : c .before .loop .p ≡ 0 = omega (arith, c .loop-test .left) in
     c .before .loop .inv .6
     ∙ ap (λ (l : List ℕ). written (a .table .now) 0 (bytesOf l)) (c .before .loop .inv .5
-    ∙ ap (partly (numbers (a .arities .now)) (numbers (a .row .now)) (numbers (a .table .now)) 0) done
-    ∙ partly-all (numbers (a .arities .now)) (numbers (a .row .now)) (numbers (a .table .now)) 0)
+    ∙ ap (partly (a .arities .now) (numbers (a .row .now)) (numbers (a .table .now)) 0) done
+    ∙ partly-all (a .arities .now) (numbers (a .row .now)) (numbers (a .table .now)) 0)
 
 pub fill-beside-spec : {M : Type 1} → statement M
 fill-beside-spec =

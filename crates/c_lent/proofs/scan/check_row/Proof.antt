@@ -16,26 +16,21 @@ use Rattle.c_lent.proofs.scan.check_row.Statement.{statement}
 use Rattle.c_lent.proofs.scan.check_row.Tie as tie
 
 abbrev Inv-loop : tie.InvT-loop
-Inv-loop arities row symbols n due₀ i₀ due i =
-    (symbols ≡ length (numbers arities))
-    × (n ≡ length (numbers row))
-    × ReadTo (numbers arities) (symbol (numbers arities)) (numbers row) i due
+Inv-loop arities row n due₀ i₀ due i =
+    (n ≡ length (numbers row)) × ReadTo arities (symbol arities) (numbers row) i due
 
 abbrev μ-loop : tie.MeasureT-loop
-μ-loop arities row symbols n due₀ i₀ due i = n - i
+μ-loop arities row n due₀ i₀ due i = n - i
 
 count-requires : tie.Need-count-requires Inv-loop μ-loop
 count-requires c κs = search needs
 
-count-requires-2 : tie.Need-count-requires-2 Inv-loop μ-loop
-count-requires-2 c κs = search needs
-
 module _ (l : tie.At-loop Inv-loop μ-loop) where
   abbrev A : List ℕ
-  A = numbers (l .before .before .before .before .before .args .arities .now)
+  A = l .before .before .before .before .args .arities .now
 
   abbrev w : List ℕ
-  w = numbers (l .before .before .before .before .before .args .row .now)
+  w = numbers (l .before .before .before .before .args .row .now)
 
 loop-holds : tie.Need-loop-holds Inv-loop μ-loop
 loop-holds c = search needs
@@ -43,7 +38,7 @@ loop-holds c = search needs
 returns : tie.Need-returns Inv-loop μ-loop
 returns c =
     let l = c .before .before in
-    sym (read-extra (A l) (symbol (A l)) (w l) _ _ (l .loop .inv .2) (search needs) (c .if1 .taken))
+    sym (read-extra (A l) (symbol (A l)) (w l) _ _ (l .loop .inv .1) (search needs) (c .if1 .taken))
 
 number-at-requires : tie.Need-number-at-requires Inv-loop μ-loop
 number-at-requires c κs = search needs
@@ -56,16 +51,19 @@ returns-2 c =
     let l = c .before .before .before .before in
     let other : symbol (A l) (getD (w l) (l .loop .i) 0) ≡ false =
     ap (symbol (A l)) (sym (c .before .number-at .ensures)) ∙ le-ltb (c .before .number-at .result) (length (A l)) (search needs) in
-    sym (read-stray (A l) (symbol (A l)) (w l) _ _ (l .loop .inv .2) (search needs) (search needs) other)
+    sym (read-stray (A l) (symbol (A l)) (w l) _ _ (l .loop .inv .1) (search needs) (search needs) other)
 
-number-at-requires-2 : tie.Need-number-at-requires-2 Inv-loop μ-loop
-number-at-requires-2 c κs = search needs
+mul-due : tie.Need-mul-due Inv-loop μ-loop
+mul-due c = search needs
+
+shared-slice-read-due : tie.Need-shared-slice-read-due Inv-loop μ-loop
+shared-slice-read-due c = search needs
 
 cast-due : tie.Need-cast-due Inv-loop μ-loop
-cast-due c = search needs
+cast-due c = omega (arith, c .shared-slice-known3 .given (c .before .before .number-at .result))
 
 add-due : tie.Need-add-due Inv-loop μ-loop
-add-due c = search needs
+add-due c = search (needs, c .shared-slice-known3 .given (c .before .before .number-at .result))
 
 add-i : tie.Need-add-i Inv-loop μ-loop
 add-i c = search needs
@@ -79,9 +77,9 @@ loop-again c =
     let s = c .before .before .number-at in
     let one : symbol (A l) (getD (w l) (l .loop .i) 0) ≡ true =
     ap (symbol (A l)) (sym (s .ensures)) ∙ lt-ltb (s .result) (length (A l)) (search needs) in
-    let arity : c .number-at2 .result ≡ getD (A l) (getD (w l) (l .loop .i) 0) 0 = c .number-at2 .ensures ∙ ap (λ (k : ℕ). getD (A l) k 0) (s .ensures) in
-    let next = read-next (A l) (symbol (A l)) (w l) _ _ (l .loop .inv .2) (search needs) (search needs) one (omega (arith, arity)) in
-    (search needs, search needs, subst (λ (k : ℕ). ReadTo (A l) (symbol (A l)) (w l) (l .loop .i + 1) (l .loop .due + k)) (sym arity) next)
+    let arity : getD (A l) (s .result) 0 ≡ getD (A l) (getD (w l) (l .loop .i) 0) 0 = ap (λ (k : ℕ). getD (A l) k 0) (s .ensures) in
+    let next = read-next (A l) (symbol (A l)) (w l) _ _ (l .loop .inv .1) (search needs) (search needs) one (omega (arith, arity, c .shared-slice-known3 .given (s .result))) in
+    (search needs, subst (λ (k : ℕ). ReadTo (A l) (symbol (A l)) (w l) (l .loop .i + 1) (l .loop .due + k)) (sym arity) next)
 
 read-end-requires : tie.Need-read-end-requires Inv-loop μ-loop
 read-end-requires c κs = search needs
@@ -90,8 +88,8 @@ returns-3 : tie.Need-returns-3 Inv-loop μ-loop
 returns-3 c =
     let l = c .before .before in
     c .read-end .ensures (A l) (symbol (A l))
-    ∙ ap (λ (k : ℕ). verdict (A l) (symbol (A l)) (l .loop .due - k) k []) (l .loop .inv .1)
-    ∙ sym (read-done (A l) (symbol (A l)) (w l) _ _ (l .loop .inv .2) (search needs))
+    ∙ ap (λ (k : ℕ). verdict (A l) (symbol (A l)) (l .loop .due - k) k []) (l .loop .inv .0)
+    ∙ sym (read-done (A l) (symbol (A l)) (w l) _ _ (l .loop .inv .1) (search needs))
 
 pub check-row-spec : {M : Type 1} → statement M
 check-row-spec =
@@ -100,13 +98,13 @@ check-row-spec =
     Inv-loop
     μ-loop
     count-requires
-    count-requires-2
     loop-holds
     returns
     number-at-requires
     cast-s
     returns-2
-    number-at-requires-2
+    mul-due
+    shared-slice-read-due
     cast-due
     add-due
     add-i

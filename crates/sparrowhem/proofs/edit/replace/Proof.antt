@@ -14,7 +14,7 @@ use Rattle.rows.specs.declared.Check.{Check}
 use Rattle.rows.specs.declared.Check.the-variants.{Fine}
 use Rattle.edits.specs.Replace.{Replaceable}
 use Rattle.checks.specs.Checks.{replaceCheck}
-use Rattle.checks.proofs.Replacing.{replace-able, able-sizes}
+use Rattle.checks.proofs.Replacing.{replace-able, replace-short, able-sizes}
 use Rattle.sparrowhem.specs.Edit.{newTree, holding}
 use Rattle.sparrowhem.specs.declared.edit.Replaced.the-variants.{Done}
 use borrow.Author.Needs.{needs}
@@ -61,7 +61,7 @@ enum-told : tie.Need-enum-told
 enum-told c = search needs
 
 replace-at-requires : tie.Need-replace-at-requires
-replace-at-requires c κs = able (c .before .before)
+replace-at-requires c κs = let o = c .before .before in let s = o .before .before in (able o, replace-short (a s) (P s) (n s) (v s) (p s) (fine o))
 
 change-requires : tie.Need-change-requires
 change-requires c κs =

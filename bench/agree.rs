@@ -1,0 +1,97 @@
+//! Before anything is timed: all versions answer and write the same, on every row that is timed and on faulty input.
+
+use crate::calls::{build, find, pass, plain_match, replace, variables, By, ALL};
+use crate::lines::patterns;
+use crate::rows::{alphabet, Programme, Rows, ONE, TWO};
+
+/// What the calls are lent.
+#[derive(Clone)]
+struct Given {
+    arities: Vec<u16>,
+    row: Vec<u16>,
+    table: Vec<u16>,
+    pattern: Vec<u16>,
+    replacement: Vec<u16>,
+    position: usize,
+    places: usize,
+}
+
+/// Do all of them do the same?
+fn same<T: PartialEq>(what: &str, by: &[By], mut call: impl FnMut(By) -> T) {
+    let mut said = by.iter().map(|&by| call(by));
+    let library = said.next().expect("the library");
+    assert!(said.all(|other| other == library), "{what}: the versions do not answer or write the same");
+}
+
+/// Every call on the same input: what is answered, and what every lent buffer then holds.
+fn same_calls(what: &str, g: &Given) {
+    let exported = [ALL[0], ALL[1], ALL[2], ALL[3], By::Exported];
+    let longer = |list: &[u16]| [list, &[7; 8]].concat();
+    same(what, &ALL, |by| pass(by, &g.arities, &g.row, &g.table));
+    same(what, &exported, |by| {
+        let mut table = vec![7; g.table.len()];
+        (build(by, &g.arities, &g.row, &mut table), table)
+    });
+    same(what, &exported, |by| {
+        let mut out = vec![7; g.places];
+        (find(by, &g.arities, &g.row, &g.table, &g.pattern, &mut out), out)
+    });
+    same(what, &ALL, |by| {
+        let mut out = vec![7; g.places];
+        (variables(by, &g.arities, &g.row, &g.table, &g.pattern, g.position, &mut out), out)
+    });
+    same(what, &ALL, |by| plain_match(by, &g.arities, &g.row, &g.pattern, g.position));
+    same(what, &exported, |by| {
+        let (mut row, mut table) = (longer(&g.row), longer(&g.table));
+        (replace(by, &g.arities, &mut row, &mut table, g.row.len(), &g.replacement, g.position), row, table)
+    });
+}
+
+/// One fault each, most of them with a refusal of its own.
+const FAULTS: [(&str, fn(&mut Given)); 24] = [
+    ("no alphabet", |g| g.arities.clear()),
+    ("a long alphabet", |g| g.arities.resize(1025, 0)),
+    ("an arity of 16", |g| g.arities.push(16)),
+    ("no leaf", |g| g.arities.retain(|&a| a > 0)),
+    ("no row", |g| g.row.clear()),
+    ("a long row", |g| g.row.resize(16385, 0)),
+    ("a short table", |g| g.table.truncate(g.row.len() - 9)),
+    ("a bad first number", |g| g.row[0] = 999),
+    ("a bad last number", |g| *g.row.last_mut().expect("a symbol") = 999),
+    ("a row that ends early", |g| g.row.truncate(g.row.len() - 1)),
+    ("a row that goes on", |g| [&mut g.row, &mut g.table].into_iter().for_each(|list| list.insert(0, 1))),
+    ("a stale first entry", |g| g.table[0] ^= 1),
+    ("a stale last entry", |g| *g.table.last_mut().expect("an entry") ^= 1),
+    ("no pattern", |g| g.pattern.clear()),
+    ("a long pattern", |g| g.pattern.resize(257, 0)),
+    ("a bad number in a pattern", |g| g.pattern[0] = 65296),
+    ("a pattern that ends early", |g| g.pattern.insert(0, TWO)),
+    ("a pattern that goes on", |g| g.pattern.push(65535)),
+    ("no replacement", |g| g.replacement.clear()),
+    ("a long replacement", |g| g.replacement.resize(16385, 0)),
+    ("a bad number in a replacement", |g| g.replacement[0] = 65535),
+    ("a replacement that ends early", |g| g.replacement.insert(0, TWO)),
+    ("a position behind the row", |g| g.position = g.row.len()),
+    ("an output without places", |g| g.places = 0),
+];
+
+fn given(p: &Programme, pattern: Vec<u16>, replacement: Vec<u16>) -> Given {
+    let (row, table, n) = (p.row.clone(), p.table.clone(), p.row.len());
+    Given { arities: alphabet(), row, table, pattern, replacement, position: n / 2, places: n + 40 }
+}
+
+pub fn agree(rows: &Rows) {
+    for p in rows.all.iter().flatten() {
+        for (on, pattern) in patterns(rows.shape, p) {
+            same_calls(on, &given(p, pattern, vec![1]));
+        }
+        same_calls("a longer replacement", &given(p, vec![65280], vec![ONE, ONE, TWO, 0, 1]));
+    }
+    for same_length in &rows.all {
+        for (what, fault) in FAULTS {
+            let mut g = given(&same_length[0], vec![TWO, 65280, 65280], vec![ONE, 0]);
+            fault(&mut g);
+            same_calls(what, &g);
+        }
+    }
+}

@@ -1,0 +1,508 @@
+/* The calls of the library once more, in the strongest portable C that we could write: what the library is held to. No
+ * intrinsics, nothing for one processor alone, no undefined behaviour; it answers as the library does on every input. What is
+ * right is found out fast, many numbers at once where that can be; only where something is wrong is its place looked for. */
+#include <stdbool.h>
+#include <stddef.h>
+#include <stdint.h>
+#include <string.h>
+
+typedef struct {
+    uint64_t refusal;
+    int32_t change;
+    uint64_t place;
+    uint64_t count;
+} answer;
+
+enum { BLANK = 65535, FIRST_VARIABLE = 65280, VARIABLES = 16, MOST_SYMBOLS = 1024, MOST_PATTERN = 256, MOST = 16384, STRIDE = 64 };
+
+/* Said to the compiler; without them all is the same, and slower. */
+#define UNLIKELY(x) __builtin_expect(!!(x), 0)
+#define INLINE static inline __attribute__((always_inline))
+#define APART static __attribute__((noinline))
+#define COLD static __attribute__((noinline, cold))
+
+static answer refused(uint64_t number, uint64_t place) { return (answer){number, 0, place, 0}; }
+
+static answer counted(uint64_t count) { return (answer){0, 0, 0, count}; }
+
+/* Numbers of the refusals of a list that should be one tree's: empty, too long, bad number, ends early, goes on. */
+static const uint8_t ROW[5] = {4, 5, 7, 8, 9}, PATTERN[5] = {11, 12, 13, 14, 15}, REPLACEMENT[5] = {24, 25, 27, 28, 29};
+
+/* Where the fault is, once it is known that there is one. */
+
+COLD answer alphabet_fault(const uint16_t *arities, size_t symbols) {
+    if (symbols == 0 || symbols > MOST_SYMBOLS) return refused(1, symbols);
+    for (size_t s = 0; s < symbols; s++)
+        if (arities[s] > 15) return refused(2, s);
+    return refused(3, 0);
+}
+
+COLD answer size_fault(size_t n, const uint8_t *number) { return n ? refused(number[1], n) : refused(number[0], 0); }
+
+static bool is_variable(uint16_t s) { return (uint16_t)(s - FIRST_VARIABLE) < VARIABLES; }
+
+COLD answer reading_fault(const uint16_t *arities, size_t symbols, const uint16_t *list, size_t n, const uint8_t *number) {
+    size_t need = 1;
+    for (size_t i = 0; i < n; i++) {
+        if (need == 0) return refused(number[4], i);
+        uint16_t s = list[i];
+        if (s < symbols) need += arities[s];
+        else if (number != PATTERN || (s != BLANK && !is_variable(s))) return refused(number[2], i);
+        need--;
+    }
+    return need ? refused(number[3], n) : counted(0);
+}
+
+/* Loops that become vector instructions. */
+
+/* Arities are at most 15 exactly if all their bits together are. */
+INLINE bool is_alphabet(const uint16_t *arities, size_t symbols) {
+    if (UNLIKELY(symbols - 1 >= MOST_SYMBOLS)) return false;
+    uint16_t bits = 0, leaf = 0;
+    for (size_t s = 0; s < symbols; s++) {
+        bits |= arities[s];
+        leaf |= arities[s] == 0;
+    }
+    return bits <= 15 && leaf;
+}
+
+INLINE bool all_symbols(const uint16_t stride[STRIDE], size_t symbols) {
+    uint16_t largest = 0;
+    for (size_t i = 0; i < STRIDE; i++) largest = largest < stride[i] ? stride[i] : largest;
+    return largest < symbols;
+}
+
+INLINE bool stands_in(const uint16_t stride[STRIDE], uint16_t symbol) {
+    uint16_t hit = 0;
+    for (size_t i = 0; i < STRIDE; i++) hit |= stride[i] == symbol;
+    return hit;
+}
+
+/* A walk over a row from right to left: behind position `at` stand so many trees, and begins[t] is where the last t of them
+ * begin. A symbol with k children takes k trees, so it ends where those that are left begin. */
+typedef struct {
+    size_t at, trees;
+    uint16_t *begins;
+} walk;
+
+/* One symbol of the walk, with k children: so many trees stand behind it, and its end stands in the table, or, where the walk
+ * writes, is written to `to`, moved by `by`. */
+INLINE bool met(walk *w, size_t k, bool writes, const uint16_t *table, uint16_t *to, size_t by) {
+    w->begins[w->trees] = (uint16_t)w->at;
+    w->at--;
+    if (UNLIKELY(__builtin_sub_overflow(w->trees, k, &w->trees))) return false;
+    uint16_t end = w->begins[w->trees++];
+    if (!writes) return end == table[w->at];
+    to[w->at] = (uint16_t)(end + by);
+    return true;
+}
+
+INLINE bool four_met(walk *w, const uint16_t *arities, const uint16_t *row, bool writes, const uint16_t *table, uint16_t *to,
+                     size_t by) {
+    for (int i = 0; i < 4; i++)
+        if (UNLIKELY(!met(w, arities[row[w->at - 1]], writes, table, to, by))) return false;
+    return true;
+}
+
+INLINE bool walked(const uint16_t *restrict arities, size_t symbols, const uint16_t *restrict row, size_t n, bool writes,
+                   const uint16_t *restrict table, uint16_t *restrict to, size_t by) {
+    uint16_t begins[MOST + 1];
+    walk w = {n, 0, begins};
+    while (w.at >= STRIDE) {
+        size_t stop = w.at - STRIDE;
+        if (UNLIKELY(!all_symbols(row + stop, symbols))) return false;
+        while (w.at != stop)
+            if (UNLIKELY(!four_met(&w, arities, row, writes, table, to, by))) return false;
+    }
+    while (w.at > 0)
+        if (UNLIKELY(row[w.at - 1] >= symbols || !met(&w, arities[row[w.at - 1]], writes, table, to, by))) return false;
+    return w.trees == 1;
+}
+
+/* Is it a row, and the table its table? */
+APART bool is_kept(const uint16_t *arities, size_t symbols, const uint16_t *row, size_t n, const uint16_t *table) {
+    return walked(arities, symbols, row, n, false, table, NULL, 0);
+}
+
+/* Is it a row? Its table, each entry moved by `by`. */
+APART bool ends_of(const uint16_t *arities, size_t symbols, const uint16_t *row, size_t n, uint16_t *to, size_t by) {
+    return walked(arities, symbols, row, n, true, NULL, to, by);
+}
+
+COLD answer kept_fault(const uint16_t *arities, size_t symbols, const uint16_t *row, size_t n, const uint16_t *table) {
+    answer a = reading_fault(arities, symbols, row, n, ROW);
+    if (a.refusal) return a;
+    uint16_t right[MOST];
+    ends_of(arities, symbols, row, n, right, 0);
+    size_t first = 0;
+    while (right[first] == table[first]) first++;
+    return refused(10, first);
+}
+
+/* Refusals 1 to 6. */
+INLINE answer check_sizes(const uint16_t *arities, size_t symbols, size_t n, size_t room) {
+    if (UNLIKELY(!is_alphabet(arities, symbols))) return alphabet_fault(arities, symbols);
+    if (UNLIKELY(n - 1 >= MOST)) return size_fault(n, ROW);
+    return UNLIKELY(room < n) ? refused(6, n) : counted(0);
+}
+
+/* Refusals 1 to 10. */
+INLINE answer check_given(const uint16_t *arities, size_t symbols, const uint16_t *row, size_t n, const uint16_t *table,
+                          size_t room) {
+    answer a = check_sizes(arities, symbols, n, room);
+    if (UNLIKELY(a.refusal)) return a;
+    return UNLIKELY(!is_kept(arities, symbols, row, n, table)) ? kept_fault(arities, symbols, row, n, table) : counted(0);
+}
+
+answer strong_pass(const uint16_t *arities, size_t symbols, const uint16_t *row, size_t n, const uint16_t *table, size_t room) {
+    return check_given(arities, symbols, row, n, table, room);
+}
+
+answer strong_build(const uint16_t *arities, size_t symbols, const uint16_t *row, size_t n, uint16_t *table, size_t room) {
+    answer a = check_sizes(arities, symbols, n, room);
+    if (UNLIKELY(a.refusal)) return a;
+    uint16_t ends[MOST];
+    if (UNLIKELY(!ends_of(arities, symbols, row, n, ends, 0))) return reading_fault(arities, symbols, row, n, ROW);
+    memcpy(table, ends, n * sizeof *table);
+    return counted(n);
+}
+
+/* Four numbers that stand side by side, read at once. */
+INLINE uint64_t four_at(const uint16_t *list) {
+    uint64_t four;
+    memcpy(&four, list, sizeof four);
+    return four;
+}
+
+/* Stops at the first difference, or a few numbers behind it. */
+INLINE bool equal(const uint16_t *a, const uint16_t *b, size_t n) {
+    if (n > 32) return memcmp(a, b, n * sizeof *a) == 0;
+    if (n < 4) {
+        for (size_t i = 0; i < n; i++)
+            if (a[i] != b[i]) return false;
+        return true;
+    }
+    for (size_t i = 0; i + 4 <= n; i += 4)
+        if (four_at(a + i) != four_at(b + i)) return false;
+    return four_at(a + n - 4) == four_at(b + n - 4);
+}
+
+/* What is known of a pattern once it is checked: which of the variables stand in it more than once, whether it is symbols only,
+ * and how many numbers it has without those at its end that fit whatever stands there: S, and variables that stand once. */
+typedef struct {
+    unsigned repeated;
+    bool fixed;
+    size_t told;
+} known;
+
+INLINE bool fits_all(uint16_t s, unsigned repeated) {
+    return s == BLANK || (is_variable(s) && !(repeated >> (s - FIRST_VARIABLE) & 1));
+}
+
+INLINE bool is_pattern(const uint16_t *arities, size_t symbols, const uint16_t *pattern, size_t m, known *k) {
+    size_t need = 1;
+    unsigned seen = 0;
+    *k = (known){0, true, m};
+    for (size_t i = 0; i < m; i++) {
+        uint16_t s = pattern[i];
+        if (need == 0) return false;
+        need--;
+        if (s < symbols) {
+            need += arities[s];
+            continue;
+        }
+        k->fixed = false;
+        if (is_variable(s)) {
+            unsigned bit = 1u << (s - FIRST_VARIABLE);
+            k->repeated |= seen & bit;
+            seen |= bit;
+        } else if (s != BLANK) return false;
+    }
+    while (k->told > 0 && fits_all(pattern[k->told - 1], k->repeated)) k->told--;
+    return need == 0;
+}
+
+/* Refusals 11 to 15. */
+INLINE answer check_pattern(const uint16_t *arities, size_t symbols, const uint16_t *pattern, size_t m, known *k) {
+    if (UNLIKELY(m - 1 >= MOST_PATTERN)) return size_fault(m, PATTERN);
+    if (UNLIKELY(!is_pattern(arities, symbols, pattern, m, k))) return reading_fault(arities, symbols, pattern, m, PATTERN);
+    return counted(0);
+}
+
+/* A pattern's told numbers behind its root, made ready for many positions: stretches of symbols, and what stands between. */
+enum { SYMBOLS_OF, ANY, FIRST, AGAIN };
+
+typedef struct {
+    uint16_t what;
+    uint16_t which; /* the variable, or how many symbols */
+} step;
+
+typedef struct {
+    size_t steps;
+    step step[MOST_PATTERN];
+    uint16_t symbols[MOST_PATTERN];
+} ready;
+
+static void make_ready(ready *r, const uint16_t *pattern, const known *k) {
+    size_t symbols = 0;
+    unsigned seen = 0;
+    r->steps = 0;
+    for (size_t i = 1; i < k->told; i++) {
+        uint16_t s = pattern[i], v = (uint16_t)(s - FIRST_VARIABLE);
+        if (fits_all(s, k->repeated)) {
+            r->step[r->steps++] = (step){ANY, 0};
+        } else if (v < VARIABLES) {
+            r->step[r->steps++] = (step){seen >> v & 1 ? AGAIN : FIRST, v};
+            seen |= 1u << v;
+        } else {
+            r->symbols[symbols++] = s;
+            if (r->steps && r->step[r->steps - 1].what == SYMBOLS_OF) r->step[r->steps - 1].which++;
+            else r->step[r->steps++] = (step){SYMBOLS_OF, 1};
+        }
+    }
+}
+
+/* Are the subtrees at a and at b equal? */
+INLINE bool same_subtree(const uint16_t *row, const uint16_t *table, size_t a, size_t b) {
+    size_t n = table[b] - b;
+    return row[a] == row[b] && table[a] - a == n && equal(row + a, row + b, n);
+}
+
+/* Does what stands behind the pattern's root fit, from position j on? */
+INLINE bool fits(const uint16_t *row, size_t n, const uint16_t *table, const ready *r, size_t j) {
+    uint16_t first[VARIABLES];
+    const uint16_t *symbols = r->symbols;
+    for (const step *s = r->step, *end = s + r->steps; s != end; s++) {
+        switch (s->what) {
+        case SYMBOLS_OF:
+            if (row[j] != *symbols || s->which > n - j || (s->which > 1 && !equal(row + j, symbols, s->which))) return false;
+            symbols += s->which;
+            j += s->which;
+            continue;
+        case FIRST: first[s->which] = (uint16_t)j; break;
+        case AGAIN:
+            if (!same_subtree(row, table, first[s->which], j)) return false;
+        }
+        j = table[j];
+    }
+    return true;
+}
+
+/* The positions of a symbol below `end`, 64 at a time: those of the stride at p. Where the pattern is symbols only its subtrees
+ * have `size` symbols, else any number (0). */
+INLINE size_t places_of(const uint16_t *row, size_t end, const uint16_t *table, uint16_t root, size_t size, size_t p,
+                        uint16_t *places) {
+    size_t count = 0, stop = end - p < STRIDE ? end : p + STRIDE;
+    if (stop - p == STRIDE && !stands_in(row + p, root)) return 0;
+    for (; p < stop; p++) {
+        places[count] = (uint16_t)p;
+        count += (row[p] == root) & (size == 0 || table[p] == (uint16_t)(p + size));
+    }
+    return count;
+}
+
+/* A pattern of symbols only is one stretch; a root over the same variable twice is a pair; any other is gone along step by step. */
+enum { STRETCH, PAIR, STEPS };
+
+/* Which of the places are matches; they are kept in their order. */
+INLINE size_t matches_of(int kind, const uint16_t *restrict row, size_t n, const uint16_t *restrict table,
+                         const uint16_t *restrict pattern, size_t m, const ready *restrict r, uint16_t *restrict places,
+                         size_t many) {
+    size_t count = 0;
+    for (size_t i = 0; i < many; i++) {
+        size_t p = places[i];
+        if (kind == STRETCH && !equal(row + p, pattern, m)) continue;
+        if (kind == PAIR && !same_subtree(row, table, p + 1, table[p + 1])) continue;
+        if (kind == STEPS && !fits(row, n, table, r, p + 1)) continue;
+        places[count++] = (uint16_t)p;
+    }
+    return count;
+}
+
+/* Writes the matches to `out`, which has a place for each symbol of the row. */
+static size_t search(const uint16_t *restrict row, size_t n, const uint16_t *restrict table, const uint16_t *restrict pattern,
+                     size_t m, const known *k, uint16_t *restrict out) {
+    size_t count = 0;
+    uint16_t places[STRIDE];
+    ready r;
+    if (k->told == 0) {
+        for (size_t p = 0; p < n; p++) out[p] = (uint16_t)p;
+        return n;
+    }
+    make_ready(&r, pattern, k);
+    bool pair = r.steps == 2 && r.step[1].what == AGAIN;
+    for (size_t p = 0; p + m <= n; p += STRIDE) {
+        size_t many = places_of(row, n - m + 1, table, pattern[0], k->fixed ? m : 0, p, places);
+        if (many == 0) continue;
+        if (k->fixed) many = matches_of(STRETCH, row, n, table, pattern, m, &r, places, many);
+        else if (pair) many = matches_of(PAIR, row, n, table, pattern, m, &r, places, many);
+        else if (k->told > 1) many = matches_of(STEPS, row, n, table, pattern, m, &r, places, many);
+        memcpy(out + count, places, many * sizeof *out);
+        count += many;
+    }
+    return count;
+}
+
+answer strong_find(const uint16_t *arities, size_t symbols, const uint16_t *row, size_t n, const uint16_t *table, size_t room,
+                   const uint16_t *pattern, size_t m, uint16_t *out, size_t places) {
+    known k = {0};
+    uint16_t beside[MOST];
+    answer a = check_given(arities, symbols, row, n, table, room);
+    if (UNLIKELY(a.refusal)) return a;
+    a = check_pattern(arities, symbols, pattern, m, &k);
+    if (UNLIKELY(a.refusal)) return a;
+    if (places >= n) return counted(search(row, n, table, pattern, m, &k, out));
+    size_t count = search(row, n, table, pattern, m, &k, beside);
+    if (count > places) return refused(19, count);
+    if (count > 0) memcpy(out, beside, count * sizeof *out);
+    return counted(count);
+}
+
+/* Does the pattern match at j? spans holds begin and end of each variable. */
+static bool match_at(const uint16_t *row, const uint16_t *table, const uint16_t *pattern, size_t m, size_t j, uint16_t *spans) {
+    for (size_t i = 0; i < m; i++) {
+        uint16_t s = pattern[i];
+        if (s < FIRST_VARIABLE) {
+            if (row[j++] != s) return false;
+            continue;
+        }
+        if (s != BLANK) {
+            uint16_t *span = spans + 2 * (s - FIRST_VARIABLE);
+            if (span[1] == 0) {
+                span[0] = (uint16_t)j;
+                span[1] = table[j];
+            } else if (!same_subtree(row, table, span[0], j)) return false;
+        }
+        j = table[j];
+    }
+    return true;
+}
+
+answer strong_variables(const uint16_t *arities, size_t symbols, const uint16_t *row, size_t n, const uint16_t *table, size_t room,
+                        const uint16_t *pattern, size_t m, size_t position, uint16_t *out, size_t places) {
+    known k = {0};
+    uint16_t spans[2 * VARIABLES] = {0};
+    answer a = check_given(arities, symbols, row, n, table, room);
+    if (UNLIKELY(a.refusal)) return a;
+    a = check_pattern(arities, symbols, pattern, m, &k);
+    if (UNLIKELY(a.refusal)) return a;
+    if (UNLIKELY(position >= n)) return refused(17, position);
+    if (UNLIKELY(places < 2 * VARIABLES)) return refused(19, 2 * VARIABLES);
+    if (!match_at(row, table, pattern, m, position, spans)) return counted(0);
+    memcpy(out, spans, sizeof spans);
+    return counted(1);
+}
+
+/* Moves n entries of a table, and moves what they say as far: in strides by a small copy, so that it becomes vector
+ * instructions though the two places overlap. */
+INLINE void move_entries(uint16_t *table, size_t from, size_t to, size_t n) {
+    uint16_t stride[STRIDE], by = (uint16_t)(to - from);
+    for (size_t done = 0; done < n;) {
+        size_t many = n - done < STRIDE ? n - done : STRIDE, i = to > from ? n - done - many : done;
+        if (many < STRIDE) {
+            memcpy(stride, table + from + i, many * sizeof *table);
+            for (size_t j = 0; j < many; j++) stride[j] = (uint16_t)(stride[j] + by);
+            memcpy(table + to + i, stride, many * sizeof *table);
+        } else {
+            memcpy(stride, table + from + i, sizeof stride);
+            for (size_t j = 0; j < STRIDE; j++) stride[j] = (uint16_t)(stride[j] + by);
+            memcpy(table + to + i, stride, sizeof stride);
+        }
+        done += many;
+    }
+}
+
+/* The subtree from `position` to `end` gives way to what ends at `to`: all behind it is moved, and the ends that lie there. */
+INLINE void make_room(uint16_t *row, uint16_t *table, size_t n, size_t position, size_t end, size_t to) {
+    uint16_t from = (uint16_t)end, by = (uint16_t)(to - end);
+    memmove(row + to, row + end, (n - end) * sizeof *row);
+    for (size_t p = 0; p < position; p++) table[p] = (uint16_t)(table[p] + (table[p] >= from ? by : 0));
+    move_entries(table, end, to, n - end);
+}
+
+answer strong_replace(const uint16_t *arities, size_t symbols, uint16_t *row, size_t row_room, uint16_t *table, size_t room,
+                      size_t n, const uint16_t *replacement, size_t m, size_t position) {
+    uint16_t ends[MOST];
+    size_t least = row_room < room ? row_room : room;
+    answer a = check_given(arities, symbols, row, n, table, least);
+    if (UNLIKELY(a.refusal)) return a;
+    if (UNLIKELY(m - 1 >= MOST)) return size_fault(m, REPLACEMENT);
+    if (UNLIKELY(!ends_of(arities, symbols, replacement, m, ends, position)))
+        return reading_fault(arities, symbols, replacement, m, REPLACEMENT);
+    if (UNLIKELY(position >= n)) return refused(17, position);
+    size_t end = table[position], to = position + m, length = to + (n - end);
+    if (UNLIKELY(length > MOST || length > least)) return refused(18, length);
+    if (end != to) make_room(row, table, n, position, end, to);
+    memcpy(row + position, replacement, m * sizeof *row);
+    memcpy(table + position, ends, m * sizeof *table);
+    if (length < n) {
+        memset(row + length, 0xff, (n - length) * sizeof *row);
+        memset(table + length, 0, (n - length) * sizeof *table);
+    }
+    return (answer){0, (int32_t)length - (int32_t)n, 0, length};
+}
+
+/* Is it a row? Read from left to right; `due` symbols are due, one for the root and as many as each symbol so far has children.
+ * Four arities are read before they are counted: no branch stands between the reads. */
+APART bool is_row(const uint16_t *restrict arities, size_t symbols, const uint16_t *restrict row, size_t n) {
+    size_t due = 1, i = 0, strides = n - n % STRIDE;
+    for (; i < strides; i += STRIDE)
+        if (UNLIKELY(!all_symbols(row + i, symbols))) return false;
+    for (i = 0; i < strides; i += 4) {
+        size_t k[4];
+        for (size_t j = 0; j < 4; j++) k[j] = arities[row[i + j]];
+        for (size_t j = 0; j < 4; j++) {
+            if (UNLIKELY(due == i + j)) return false;
+            due += k[j];
+        }
+    }
+    for (; i < n; i++) {
+        if (UNLIKELY(due == i || row[i] >= symbols)) return false;
+        due += arities[row[i]];
+    }
+    return due == n;
+}
+
+/* The end of the subtree at j, by counting. */
+INLINE size_t counted_end(const uint16_t *restrict arities, const uint16_t *restrict row, size_t j) {
+    size_t due = j + 1;
+    for (; j < due; j++) due += arities[row[j]];
+    return j;
+}
+
+/* As match_at, without a table: only what the pattern tells is looked at, and an end is found where it is asked for. */
+static bool plain_at(const uint16_t *arities, const uint16_t *row, size_t n, const uint16_t *pattern, size_t told, size_t j) {
+    size_t begin[VARIABLES], length[VARIABLES] = {0};
+    for (size_t i = 0; i < told; i++) {
+        uint16_t s = pattern[i], v = (uint16_t)(s - FIRST_VARIABLE);
+        if (s < FIRST_VARIABLE) {
+            if (row[j++] != s) return false;
+            continue;
+        }
+        /* what begins with all the symbols of a subtree has that subtree's length: no end to look for */
+        if (v < VARIABLES && length[v]) {
+            if (length[v] > n - j || row[j] != row[begin[v]] || !equal(row + begin[v], row + j, length[v])) return false;
+            j += length[v];
+            continue;
+        }
+        size_t end = counted_end(arities, row, j);
+        if (v < VARIABLES) {
+            begin[v] = j;
+            length[v] = end - j;
+        }
+        j = end;
+    }
+    return true;
+}
+
+answer strong_plain_match(const uint16_t *arities, size_t symbols, const uint16_t *row, size_t n, const uint16_t *pattern, size_t m,
+                          size_t position) {
+    known k = {0};
+    answer a = check_sizes(arities, symbols, n, n);
+    if (UNLIKELY(a.refusal)) return a;
+    if (UNLIKELY(!is_row(arities, symbols, row, n))) return reading_fault(arities, symbols, row, n, ROW);
+    a = check_pattern(arities, symbols, pattern, m, &k);
+    if (UNLIKELY(a.refusal)) return a;
+    if (UNLIKELY(position >= n)) return refused(17, position);
+    return counted(plain_at(arities, row, n, pattern, k.told, position));
+}
