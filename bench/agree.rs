@@ -1,8 +1,8 @@
 //! Before anything is timed: all versions answer and write the same, on every row that is timed and on faulty input.
 
-use crate::calls::{build, find, pass, plain_match, replace, variables, By, ALL};
+use crate::calls::{build, class_check, find, pass, plain_match, replace, variables, Buffers, By, ALL};
 use crate::lines::patterns;
-use crate::rows::{alphabet, Programme, Rows, ONE, TWO};
+use crate::rows::{Programme, Rows, ONE, TWO};
 
 /// What the calls are lent.
 #[derive(Clone)]
@@ -10,6 +10,7 @@ struct Given {
     arities: Vec<u16>,
     row: Vec<u16>,
     table: Vec<u16>,
+    classes: Vec<u16>,
     pattern: Vec<u16>,
     replacement: Vec<u16>,
     position: usize,
@@ -27,28 +28,43 @@ fn same<T: PartialEq>(what: &str, by: &[By], mut call: impl FnMut(By) -> T) {
 fn same_calls(what: &str, g: &Given) {
     let exported = [ALL[0], ALL[1], ALL[2], ALL[3], By::Exported];
     let longer = |list: &[u16]| [list, &[7; 8]].concat();
-    same(what, &ALL, |by| pass(by, &g.arities, &g.row, &g.table));
+    let sized = (1..=16384).contains(&g.row.len()) && g.table.len() >= g.row.len();
+    if sized {
+        same(what, &ALL, |by| pass(by, &g.arities, &g.row, &g.table));
+    }
+    if sized && g.classes.len() >= g.row.len() && pass(By::Library, &g.arities, &g.row, &g.table).refusal == 0 {
+        same(what, &ALL, |by| class_check(by, &g.row, &g.table, &g.classes));
+    }
     same(what, &exported, |by| {
-        let mut table = vec![7; g.table.len()];
-        (build(by, &g.arities, &g.row, &mut table), table)
+        let (mut table, mut classes) = (vec![7; g.table.len()], vec![7; g.classes.len()]);
+        (build(by, &g.arities, &g.row, &mut table, &mut classes), table, classes)
     });
     same(what, &exported, |by| {
         let mut out = vec![7; g.places];
-        (find(by, &g.arities, &g.row, &g.table, &g.pattern, &mut out), out)
+        (find(by, &g.arities, &g.row, &g.table, &g.classes, &g.pattern, &mut out), out)
     });
     same(what, &ALL, |by| {
         let mut out = vec![7; g.places];
-        (variables(by, &g.arities, &g.row, &g.table, &g.pattern, g.position, &mut out), out)
+        (variables(by, &g.arities, &g.row, &g.table, &g.classes, &g.pattern, g.position, &mut out), out)
     });
     same(what, &ALL, |by| plain_match(by, &g.arities, &g.row, &g.pattern, g.position));
     same(what, &exported, |by| {
-        let (mut row, mut table) = (longer(&g.row), longer(&g.table));
-        (replace(by, &g.arities, &mut row, &mut table, g.row.len(), &g.replacement, g.position), row, table)
+        let (mut row, mut table, mut classes) = (longer(&g.row), longer(&g.table), longer(&g.classes));
+        let buffers = Buffers { row: &mut row, table: &mut table, classes: &mut classes };
+        (replace(by, &g.arities, buffers, g.row.len(), &g.replacement, g.position), row, table, classes)
     });
 }
 
+/// The last class that is not its position's own, and all that are the same, name its position and no longer the first.
+fn lead_later(g: &mut Given) {
+    if let Some(last) = (0..g.row.len()).rfind(|&p| (g.classes[p] as usize) < p) {
+        let first = g.classes[last];
+        g.classes.iter_mut().filter(|c| **c == first).for_each(|c| *c = last as u16);
+    }
+}
+
 /// One fault each, most of them with a refusal of its own.
-const FAULTS: [(&str, fn(&mut Given)); 24] = [
+const FAULTS: [(&str, fn(&mut Given)); 32] = [
     ("no alphabet", |g| g.arities.clear()),
     ("a long alphabet", |g| g.arities.resize(1025, 0)),
     ("an arity of 16", |g| g.arities.push(16)),
@@ -56,12 +72,23 @@ const FAULTS: [(&str, fn(&mut Given)); 24] = [
     ("no row", |g| g.row.clear()),
     ("a long row", |g| g.row.resize(16385, 0)),
     ("a short table", |g| g.table.truncate(g.row.len() - 9)),
-    ("a bad first number", |g| g.row[0] = 999),
-    ("a bad last number", |g| *g.row.last_mut().expect("a symbol") = 999),
+    ("short classes", |g| g.classes.truncate(g.row.len() - 9)),
+    ("a bad first number", |g| g.row[0] = 1024),
+    ("a bad last number", |g| *g.row.last_mut().expect("a symbol") = 1024),
     ("a row that ends early", |g| g.row.truncate(g.row.len() - 1)),
-    ("a row that goes on", |g| [&mut g.row, &mut g.table].into_iter().for_each(|list| list.insert(0, 1))),
+    ("a row that goes on", |g| [&mut g.row, &mut g.table, &mut g.classes].into_iter().for_each(|list| list.insert(0, 1))),
     ("a stale first entry", |g| g.table[0] ^= 1),
     ("a stale last entry", |g| *g.table.last_mut().expect("an entry") ^= 1),
+    ("a wrong first class", |g| g.classes[0] ^= 1),
+    ("a wrong last class", |g| *g.classes.last_mut().expect("a class") ^= 1),
+    ("a class behind the row", |g| g.classes[g.row.len() / 2] = 16384),
+    ("classes that are all 0", |g| g.classes.fill(0)),
+    ("classes that are each their own", |g| (0..g.row.len()).for_each(|p| g.classes[p] = p as u16)),
+    ("a later leader", lead_later),
+    ("a stale last entry and a wrong first class", |g| {
+        *g.table.last_mut().expect("an entry") ^= 1;
+        g.classes[0] ^= 1;
+    }),
     ("no pattern", |g| g.pattern.clear()),
     ("a long pattern", |g| g.pattern.resize(257, 0)),
     ("a bad number in a pattern", |g| g.pattern[0] = 65296),
@@ -75,21 +102,22 @@ const FAULTS: [(&str, fn(&mut Given)); 24] = [
     ("an output without places", |g| g.places = 0),
 ];
 
-fn given(p: &Programme, pattern: Vec<u16>, replacement: Vec<u16>) -> Given {
-    let (row, table, n) = (p.row.clone(), p.table.clone(), p.row.len());
-    Given { arities: alphabet(), row, table, pattern, replacement, position: n / 2, places: n + 40 }
+fn given(rows: &Rows, p: &Programme, pattern: Vec<u16>, replacement: Vec<u16>) -> Given {
+    let Programme { row, table, classes } = p.clone();
+    let n = row.len();
+    Given { arities: rows.arities.clone(), row, table, classes, pattern, replacement, position: n / 2, places: n + 40 }
 }
 
 pub fn agree(rows: &Rows) {
     for p in rows.all.iter().flatten() {
         for (on, pattern) in patterns(rows.shape, p) {
-            same_calls(on, &given(p, pattern, vec![1]));
+            same_calls(on, &given(rows, p, pattern, vec![1]));
         }
-        same_calls("a longer replacement", &given(p, vec![65280], vec![ONE, ONE, TWO, 0, 1]));
+        same_calls("a longer replacement", &given(rows, p, vec![65280], vec![ONE, ONE, TWO, 0, 1]));
     }
     for same_length in &rows.all {
         for (what, fault) in FAULTS {
-            let mut g = given(&same_length[0], vec![TWO, 65280, 65280], vec![ONE, 0]);
+            let mut g = given(rows, &same_length[0], vec![TWO, 65280, 65280], vec![ONE, 0]);
             fault(&mut g);
             same_calls(what, &g);
         }

@@ -1,6 +1,6 @@
 //! What the calls are held to, and how far each is from it.
 
-use crate::rows::LENGTHS;
+use crate::rows::{COLLIDING, LENGTHS, SHAPES};
 use crate::timing::Measured;
 use std::fmt::Write;
 
@@ -68,6 +68,21 @@ fn is_short(m: &Measured) -> bool {
     m.on.ends_with("short output")
 }
 
+/// Rows of which nearly all subtrees are different, though their symbols are few or their sizes the same.
+const DISTINCT: [&str; 3] = ["near-equal chains", "distinct pairs", "full binary of random symbols"];
+
+fn is_build(m: &Measured) -> bool {
+    is(m, "build", "accepted")
+}
+
+fn is_class_check(m: &Measured) -> bool {
+    is(m, "class check", "right classes")
+}
+
+fn on_any(m: &Measured, shapes: &[&str]) -> bool {
+    shapes.contains(&m.shape.as_str())
+}
+
 /// A whole call of the library, with all four versions timed.
 fn whole(m: &Measured) -> bool {
     !m.of_rust().is_nan()
@@ -87,23 +102,40 @@ fn beside_the_strongest() -> Vec<Bar> {
         Bar::strongest("variables", 1.2, |m| m.call == "variables"),
         Bar::strongest("plain matcher", 1.2, |m| m.call == "plain matcher"),
         Bar::strongest("replace", 1.25, |m| m.call.starts_with("replace")),
-        Bar::strongest("build", f64::INFINITY, |m| is(m, "build", "accepted")),
+        Bar::strongest("build", 1.15, is_build),
+        Bar::strongest("class check", 1.15, is_class_check),
     ]
 }
 
 fn others() -> Vec<Bar> {
-    let grows: fn(&Measured) -> bool = |m| m.n >= 16384 - 8 && whole(m) && m.on != "repeated variables";
+    // a jump shows that more room is taken; not so where the work is another at each length
+    let jumps: fn(&Measured) -> bool = |m| {
+        let other_work = m.on.contains("fixed") || (m.call == "class check" && m.shape == "equal subtrees");
+        m.n == 257 && whole(m) && on_any(m, &SHAPES) && !other_work
+    };
+    let grows: fn(&Measured) -> bool = |m| m.n >= 16384 - 8 && whole(m) && on_any(m, &SHAPES);
+    let chains: fn(&Measured) -> bool = |m| is_class_check(m) && on_any(m, &["repeated blocks", "chain", "near-equal chains", "left comb", "right comb"]);
+    let random: fn(&Measured) -> bool = |m| is_class_check(m) && on_any(m, &["random", "full binary of random symbols"]);
+    let usual: fn(&Measured) -> bool = |m| is_build(m) && !on_any(m, &DISTINCT) && !on_any(m, &COLLIDING);
+    let colliding: fn(&Measured) -> bool = |m| (is_build(m) || is_class_check(m)) && on_any(m, &COLLIDING);
     let yardstick: fn(&Measured) -> f64 = Measured::of_yardstick;
     vec![
         Bar::other("a whole call, of the Rust", 1.0, 4096, whole, Measured::of_rust),
         Bar::other("a whole call, of the plain C", 1.15, 4096, whole, Measured::of_c),
-        Bar::other("find with a rare root, of a pass", 2.5, 4096, |m| is(m, "find", "rare root"), yardstick),
+        Bar::other("class check of blocks, chains and combs, of a pass", 1.5, 4096, chains, yardstick),
+        Bar::other("class check of random rows and symbols, of a pass", 6.0, 4096, random, yardstick),
+        Bar::other("build, of a pass", 12.0, 4096, usual, yardstick),
+        Bar::other("build where nearly all subtrees are different, of a pass", 20.0, 4096, |m| is_build(m) && on_any(m, &DISTINCT), yardstick),
+        Bar::other("build and class check of rows made to collide, in ms", 5.0, 0, colliding, |m| m.ns[0] / 1e6),
+        Bar::other("a wrong class, of a right one, a build and a pass", 1.0, 4096, |m| m.on.contains("wrong"), yardstick),
+        Bar::other("find with a rare root, of its checks", 2.5, 4096, |m| is(m, "find", "rare root"), yardstick),
+        Bar::other("find with repeated variables, of one with a common root", 1.5, 4096, |m| is(m, "find", "repeated variables"), yardstick),
         Bar::other("find with an output shorter than the row, of find with room", 1.15, 0, is_short, yardstick),
         Bar::other("a stale table, of one that is accepted", 3.0, 4096, |m| m.on.contains("stale"), yardstick),
         Bar::other("one replacement, of a build", 2.0, 4096, |m| m.call == "replace and back", |m| m.of_yardstick() / 2.0),
         Bar::other("the whole row replaced, of a build", 2.0, 4096, |m| m.on == "whole row", yardstick),
         Bar::other("pass with 1,024 symbols, of one with 17", 2.0, 0, |m| m.on.starts_with("alphabet"), yardstick),
-        Bar::other("time for each symbol, at 257 of that at 256", 1.2, 0, |m| m.n == 257 && whole(m) && !m.on.contains("fixed"), |m| m.growth),
+        Bar::other("time for each symbol, at 257 of that at 256", 1.2, 0, jumps, |m| m.growth),
         Bar::other("time for each symbol, at 16,384 of that at 4,096", 1.25, 4096, grows, |m| m.growth),
     ]
 }

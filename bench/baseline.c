@@ -73,7 +73,8 @@ static answer check_table(const uint16_t *arities, const uint16_t *row, size_t n
     return counted(0);
 }
 
-static answer check_given(const uint16_t *arities, size_t symbols, const uint16_t *row, size_t n, const uint16_t *table, size_t room) {
+/* Refusals 1 to 10. */
+static answer check_ends(const uint16_t *arities, size_t symbols, const uint16_t *row, size_t n, const uint16_t *table, size_t room) {
     answer a = check_alphabet(arities, symbols);
     if (a.refusal) return a;
     a = check_size(n, MOST, ROW);
@@ -84,7 +85,148 @@ static answer check_given(const uint16_t *arities, size_t symbols, const uint16_
 }
 
 answer c_pass(const uint16_t *arities, size_t symbols, const uint16_t *row, size_t n, const uint16_t *table, size_t room) {
-    return check_given(arities, symbols, row, n, table, room);
+    return check_ends(arities, symbols, row, n, table, room);
+}
+
+/* Positions in chains, by a hash of the symbol and of what stands for each child. */
+enum { NONE = 65535 };
+
+typedef struct {
+    size_t mask;
+    uint16_t heads[MOST], next[MOST];
+} chains;
+
+static void no_chains(chains *c, size_t many) {
+    size_t heads = 1;
+    while (heads < many) heads *= 2;
+    c->mask = heads - 1;
+    memset(c->heads, 0xff, heads * sizeof *c->heads);
+}
+
+static uint64_t mix(uint64_t hash, uint16_t x) { return ((hash << 5 | hash >> 59) ^ x) * UINT64_C(0x9E3779B97F4A7C15); }
+
+/* The head of a position's chain, where `of` has a number for each child. */
+static uint16_t *chain_of(chains *c, const uint16_t *row, const uint16_t *table, const uint16_t *of, size_t p) {
+    uint64_t hash = mix(0, row[p]);
+    for (size_t y = p + 1; y < table[p]; y = table[y]) hash = mix(hash, of[y]);
+    return &c->heads[hash >> 32 & c->mask];
+}
+
+static void put(chains *c, uint16_t *head, size_t i) {
+    c->next[i] = *head;
+    *head = (uint16_t)i;
+}
+
+/* Have p and q the same symbol, and their children pairwise the same number in `of`? */
+static bool same_sign(const uint16_t *row, const uint16_t *table, const uint16_t *of, size_t p, size_t q) {
+    if (row[p] != row[q] || table[p] - p != table[q] - q) return false;
+    for (size_t y = p + 1; y < table[p]; y = table[y])
+        if (of[y] != of[y - p + q]) return false;
+    return true;
+}
+
+/* The position that a child of p tells of where the same child stands, in `of`, at the same distance below it: one that is told by
+   itself and has the sign of p. */
+static size_t told_by_children(const uint16_t *row, const uint16_t *table, const uint16_t *of, size_t p) {
+    for (size_t y = p + 1; y < table[p]; y = table[y]) {
+        size_t below = y - p, q = of[y] - below;
+        if (of[y] >= below && q != p && of[q] == q && same_sign(row, table, of, p, q)) return q;
+    }
+    return NONE;
+}
+
+/* Writes the classes of a row whose table is right: from right to left the last position with an equal subtree, and then, from
+   left to right, the first that has this last one. What has a last one below it is a last one too. Others are looked for where
+   their children say, and among those in chains, which have no last one below them. */
+static void fill_classes(const uint16_t *row, size_t n, const uint16_t *table, uint16_t *classes) {
+    chains c;
+    uint16_t last[MOST], *first = c.next;
+    size_t newest = n;
+    no_chains(&c, n);
+    for (size_t p = n; p-- > 0;) {
+        size_t q = NONE;
+        if (newest >= table[p]) {
+            uint16_t *head = chain_of(&c, row, table, last, p);
+            q = told_by_children(row, table, last, p);
+            if (q == NONE)
+                for (q = *head; q != NONE && !same_sign(row, table, last, p, q);) q = c.next[q];
+            if (q == NONE) put(&c, head, p);
+        }
+        last[p] = (uint16_t)(q == NONE ? p : q);
+        if (q == NONE) newest = p;
+    }
+    memset(first, 0xff, n * sizeof *first);
+    for (size_t p = 0; p < n; p++) {
+        if (first[last[p]] == NONE) first[last[p]] = (uint16_t)p;
+        classes[p] = first[last[p]];
+    }
+}
+
+/* The positions that lead, which is to be their own class, and have no other such below them; if each other position names an
+   earlier leader whose subtree, with the classes in it, is the same, and no two leaves lead for one symbol. */
+static bool bare_leaders(const uint16_t *row, size_t n, const uint16_t *table, const uint16_t *classes, uint16_t *bare, size_t *many) {
+    bool seen[1024] = {false};
+    size_t open = NONE; /* the last leader with children, where no leader has come since */
+    *many = 0;
+    for (size_t p = 0; p < n;) {
+        size_t q = classes[p], end = table[p], bytes = (end - p) * sizeof *row;
+        if (q > p) return false;
+        if (q < p) {
+            if (classes[q] != q || memcmp(row + p, row + q, bytes)) return false;
+            if (memcmp(classes + p + 1, classes + q + 1, bytes - sizeof *classes)) return false;
+            p = end;
+            continue;
+        }
+        if (open != NONE && table[open] <= p) bare[(*many)++] = (uint16_t)open;
+        open = end > p + 1 ? p : NONE;
+        if (open == NONE && seen[row[p]]) return false;
+        if (open == NONE) seen[row[p]] = true;
+        p++;
+    }
+    if (open != NONE) bare[(*many)++] = (uint16_t)open;
+    return true;
+}
+
+/* Are they the row's, whose table is right? Of two equal leaders the later of the least ones is bare: so bare ones are looked for
+   among the bare ones, and where their children's classes say. */
+static bool are_classes(const uint16_t *row, size_t n, const uint16_t *table, const uint16_t *classes) {
+    chains c;
+    uint16_t bare[MOST];
+    size_t many;
+    if (!bare_leaders(row, n, table, classes, bare, &many)) return false;
+    no_chains(&c, many);
+    for (size_t i = 0; i < many; i++) {
+        size_t p = bare[i];
+        if (told_by_children(row, table, classes, p) != NONE) return false;
+        uint16_t *head = chain_of(&c, row, table, classes, p);
+        for (size_t j = *head; j != NONE; j = c.next[j])
+            if (same_sign(row, table, classes, p, bare[j])) return false;
+        put(&c, head, i);
+    }
+    return true;
+}
+
+/* Refusal 62, for a row whose table is right. */
+static answer check_classes(const uint16_t *row, size_t n, const uint16_t *table, const uint16_t *classes) {
+    if (are_classes(row, n, table, classes)) return counted(0);
+    uint16_t right[MOST];
+    fill_classes(row, n, table, right);
+    size_t first = 0;
+    while (right[first] == classes[first]) first++;
+    return refused(62, first);
+}
+
+answer c_class_check(const uint16_t *row, size_t n, const uint16_t *table, size_t room, const uint16_t *classes, size_t class_room) {
+    return room < n || class_room < n ? refused(6, n) : check_classes(row, n, table, classes);
+}
+
+static size_t shorter(size_t a, size_t b) { return a < b ? a : b; }
+
+/* Refusals 1 to 10, then 62. */
+static answer check_given(const uint16_t *arities, size_t symbols, const uint16_t *row, size_t n, const uint16_t *table,
+                          const uint16_t *classes, size_t room) {
+    answer a = check_ends(arities, symbols, row, n, table, room);
+    return a.refusal ? a : check_classes(row, n, table, classes);
 }
 
 static answer check_pattern(const uint16_t *arities, size_t symbols, const uint16_t *pattern, size_t m) {
@@ -92,20 +234,23 @@ static answer check_pattern(const uint16_t *arities, size_t symbols, const uint1
     return a.refusal ? a : check_reading(arities, symbols, pattern, m, true, PATTERN);
 }
 
-answer c_build(const uint16_t *arities, size_t symbols, const uint16_t *row, size_t n, uint16_t *table, size_t room) {
+answer c_build(const uint16_t *arities, size_t symbols, const uint16_t *row, size_t n, uint16_t *table, size_t room,
+               uint16_t *classes, size_t class_room) {
     answer a = check_alphabet(arities, symbols);
     if (a.refusal) return a;
     a = check_size(n, MOST, ROW);
     if (a.refusal) return a;
-    if (room < n) return refused(6, n);
+    if (room < n || class_room < n) return refused(6, n);
     a = check_reading(arities, symbols, row, n, false, ROW);
     if (a.refusal) return a;
     fill(arities, row, n, table, 0);
+    fill_classes(row, n, table, classes);
     return counted(n);
 }
 
 /* Does the pattern match at p? spans holds begin and end of each variable. */
-static bool match_at(const uint16_t *row, const uint16_t *table, const uint16_t *pattern, size_t m, size_t p, uint16_t *spans) {
+static bool match_at(const uint16_t *row, const uint16_t *table, const uint16_t *classes, const uint16_t *pattern, size_t m, size_t p,
+                     uint16_t *spans) {
     if (row[p] != pattern[0] && pattern[0] < FIRST_VARIABLE) return false;
     memset(spans, 0, 2 * VARIABLES * sizeof *spans);
     size_t j = p;
@@ -122,7 +267,7 @@ static bool match_at(const uint16_t *row, const uint16_t *table, const uint16_t 
             if (span[1] == 0) {
                 span[0] = (uint16_t)j;
                 span[1] = (uint16_t)end;
-            } else if ((size_t)(span[1] - span[0]) != end - j || memcmp(row + span[0], row + j, (end - j) * sizeof *row)) {
+            } else if (classes[span[0]] != classes[j]) {
                 return false;
             }
         }
@@ -132,47 +277,42 @@ static bool match_at(const uint16_t *row, const uint16_t *table, const uint16_t 
 }
 
 answer c_find(const uint16_t *arities, size_t symbols, const uint16_t *row, size_t n, const uint16_t *table, size_t room,
-              const uint16_t *pattern, size_t m, uint16_t *out, size_t places) {
-    answer a = check_given(arities, symbols, row, n, table, room);
+              const uint16_t *classes, size_t class_room, const uint16_t *pattern, size_t m, uint16_t *out, size_t places) {
+    answer a = check_given(arities, symbols, row, n, table, classes, shorter(room, class_room));
     if (a.refusal) return a;
     a = check_pattern(arities, symbols, pattern, m);
     if (a.refusal) return a;
     uint16_t spans[2 * VARIABLES];
     size_t count = 0;
     if (places < n) {
-        for (size_t p = 0; p < n; p++) count += match_at(row, table, pattern, m, p, spans);
+        for (size_t p = 0; p < n; p++) count += match_at(row, table, classes, pattern, m, p, spans);
         if (count > places) return refused(19, count);
         count = 0;
     }
     for (size_t p = 0; p < n; p++)
-        if (match_at(row, table, pattern, m, p, spans)) out[count++] = (uint16_t)p;
+        if (match_at(row, table, classes, pattern, m, p, spans)) out[count++] = (uint16_t)p;
     return counted(count);
 }
 
 answer c_variables(const uint16_t *arities, size_t symbols, const uint16_t *row, size_t n, const uint16_t *table, size_t room,
-                   const uint16_t *pattern, size_t m, size_t position, uint16_t *out, size_t places) {
-    answer a = check_given(arities, symbols, row, n, table, room);
+                   const uint16_t *classes, size_t class_room, const uint16_t *pattern, size_t m, size_t position, uint16_t *out,
+                   size_t places) {
+    answer a = check_given(arities, symbols, row, n, table, classes, shorter(room, class_room));
     if (a.refusal) return a;
     a = check_pattern(arities, symbols, pattern, m);
     if (a.refusal) return a;
     if (position >= n) return refused(17, position);
     if (places < 2 * VARIABLES) return refused(19, 2 * VARIABLES);
     uint16_t spans[2 * VARIABLES];
-    if (!match_at(row, table, pattern, m, position, spans)) return counted(0);
+    if (!match_at(row, table, classes, pattern, m, position, spans)) return counted(0);
     memcpy(out, spans, sizeof spans);
     return counted(1);
 }
 
 answer c_replace(const uint16_t *arities, size_t symbols, uint16_t *row, size_t row_room, uint16_t *table, size_t room,
-                 size_t n, const uint16_t *replacement, size_t m, size_t position) {
-    answer a = check_alphabet(arities, symbols);
-    if (a.refusal) return a;
-    a = check_size(n, MOST, ROW);
-    if (a.refusal) return a;
-    if (row_room < n || room < n) return refused(6, n);
-    a = check_reading(arities, symbols, row, n, false, ROW);
-    if (a.refusal) return a;
-    a = check_table(arities, row, n, table);
+                 uint16_t *classes, size_t class_room, size_t n, const uint16_t *replacement, size_t m, size_t position) {
+    size_t least = shorter(row_room, shorter(room, class_room));
+    answer a = check_given(arities, symbols, row, n, table, classes, least);
     if (a.refusal) return a;
     a = check_size(m, MOST, REPLACEMENT);
     if (a.refusal) return a;
@@ -180,7 +320,7 @@ answer c_replace(const uint16_t *arities, size_t symbols, uint16_t *row, size_t 
     if (a.refusal) return a;
     if (position >= n) return refused(17, position);
     size_t end = table[position], to = position + m, length = to + (n - end);
-    if (length > MOST || length > row_room || length > room) return refused(18, length);
+    if (length > MOST || length > least) return refused(18, length);
     memmove(row + to, row + end, (n - end) * sizeof *row);
     memcpy(row + position, replacement, m * sizeof *row);
     memmove(table + to, table + end, (n - end) * sizeof *table);
@@ -188,9 +328,11 @@ answer c_replace(const uint16_t *arities, size_t symbols, uint16_t *row, size_t 
         if (table[p] >= end) table[p] = (uint16_t)(table[p] - end + to);
     for (size_t p = to; p < length; p++) table[p] = (uint16_t)(table[p] - end + to);
     fill(arities, replacement, m, table, position);
+    fill_classes(row, length, table, classes);
     for (size_t p = length; p < n; p++) {
         row[p] = BLANK;
         table[p] = 0;
+        classes[p] = 0;
     }
     return (answer){0, (int32_t)length - (int32_t)n, 0, length};
 }

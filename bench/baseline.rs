@@ -81,7 +81,8 @@ fn check_table(arities: &[u16], row: &[u16], table: &[u16]) -> Result<(), Refusa
     Ok(())
 }
 
-pub fn check_given(arities: &[u16], row: &[u16], table: &[u16]) -> Result<(), Refusal> {
+/// Refusals 1 to 10.
+pub fn check_ends(arities: &[u16], row: &[u16], table: &[u16]) -> Result<(), Refusal> {
     check_alphabet(arities)?;
     check_size(row.len(), 16384, ROW)?;
     if table.len() < row.len() {
@@ -91,24 +92,189 @@ pub fn check_given(arities: &[u16], row: &[u16], table: &[u16]) -> Result<(), Re
     check_table(arities, row, table)
 }
 
+/// No position.
+const NONE: u16 = 65535;
+
+/// Positions in chains, by a hash of the symbol and of what stands for each child.
+struct Chains {
+    heads: Vec<u16>,
+    next: Vec<u16>,
+}
+
+impl Chains {
+    fn new(many: usize) -> Chains {
+        Chains { heads: vec![NONE; many.next_power_of_two()], next: vec![NONE; many] }
+    }
+
+    /// The chain of a position, where `of` has a number for each child.
+    fn of(&self, row: &[u16], table: &[u16], of: &[u16], p: usize) -> usize {
+        let mix = |hash: u64, x: u16| (hash.rotate_left(5) ^ x as u64).wrapping_mul(0x9E37_79B9_7F4A_7C15);
+        let (mut hash, mut y) = (mix(0, row[p]), p + 1);
+        while y < table[p] as usize {
+            hash = mix(hash, of[y]);
+            y = table[y] as usize;
+        }
+        (hash >> 32) as usize & (self.heads.len() - 1)
+    }
+
+    /// The first in a chain of which that holds.
+    fn find(&self, chain: usize, holds: impl Fn(usize) -> bool) -> Option<usize> {
+        let mut i = self.heads[chain];
+        while i != NONE && !holds(i as usize) {
+            i = self.next[i as usize];
+        }
+        (i != NONE).then_some(i as usize)
+    }
+
+    fn put(&mut self, chain: usize, i: usize) {
+        self.next[i] = self.heads[chain];
+        self.heads[chain] = i as u16;
+    }
+}
+
+/// Have p and q the same symbol, and their children pairwise the same number in `of`?
+fn same_sign(row: &[u16], table: &[u16], of: &[u16], p: usize, q: usize) -> bool {
+    if row[p] != row[q] || table[p] as usize - p != table[q] as usize - q {
+        return false;
+    }
+    let mut y = p + 1;
+    while y < table[p] as usize {
+        if of[y] != of[y - p + q] {
+            return false;
+        }
+        y = table[y] as usize;
+    }
+    true
+}
+
+/// The position that a child of p tells of where the same child stands, in `of`, at the same distance below it: one that is told by
+/// itself and has the sign of p.
+fn told_by_children(row: &[u16], table: &[u16], of: &[u16], p: usize) -> Option<usize> {
+    let mut y = p + 1;
+    while y < table[p] as usize {
+        let told = (of[y] as usize + p).checked_sub(y).filter(|&q| q != p && of[q] as usize == q);
+        if told.is_some_and(|q| same_sign(row, table, of, p, q)) {
+            return told;
+        }
+        y = table[y] as usize;
+    }
+    None
+}
+
+/// Writes the classes of a row whose table is right: from right to left the last position with an equal subtree, and then, from
+/// left to right, the first that has this last one. What has a last one below it is a last one too. Others are looked for where
+/// their children say, and among those in chains, which have no last one below them.
+fn fill_classes(row: &[u16], table: &[u16], classes: &mut [u16]) {
+    let mut chains = Chains::new(row.len());
+    let (mut last, mut newest) = (vec![NONE; row.len()], row.len());
+    for p in (0..row.len()).rev() {
+        let mut found = None;
+        if newest >= table[p] as usize {
+            let chain = chains.of(row, table, &last, p);
+            found = told_by_children(row, table, &last, p).or_else(|| chains.find(chain, |q| same_sign(row, table, &last, p, q)));
+            if found.is_none() {
+                chains.put(chain, p);
+            }
+        }
+        last[p] = found.unwrap_or(p) as u16;
+        newest = if found.is_none() { p } else { newest };
+    }
+    let mut first = vec![NONE; row.len()];
+    for p in 0..row.len() {
+        let class = &mut first[last[p] as usize];
+        if *class == NONE {
+            *class = p as u16;
+        }
+        classes[p] = *class;
+    }
+}
+
+/// The positions that lead, which is to be their own class, and have no other such below them; if each other position names an
+/// earlier leader whose subtree, with the classes in it, is the same, and no two leaves lead for one symbol.
+fn bare_leaders(row: &[u16], table: &[u16], classes: &[u16]) -> Option<Vec<usize>> {
+    let (mut bare, mut seen) = (Vec::new(), [false; 1024]);
+    let mut open = None; // the last leader with children, where no leader has come since
+    let mut p = 0;
+    while p < row.len() {
+        let (q, end) = (classes[p] as usize, table[p] as usize);
+        if q < p {
+            let by = p - q;
+            if classes[q] as usize != q || row[p..end] != row[q..end - by] || classes[p + 1..end] != classes[q + 1..end - by] {
+                return None;
+            }
+            p = end;
+            continue;
+        }
+        if q > p {
+            return None;
+        }
+        bare.extend(open.filter(|&l| table[l] as usize <= p));
+        open = (end > p + 1).then_some(p);
+        if open.is_none() && std::mem::replace(&mut seen[row[p] as usize], true) {
+            return None;
+        }
+        p += 1;
+    }
+    bare.extend(open);
+    Some(bare)
+}
+
+/// Are they the row's, whose table is right? Of two equal leaders the later of the least ones is bare: so bare ones are looked for
+/// among the bare ones, and where their children's classes say.
+fn are_classes(row: &[u16], table: &[u16], classes: &[u16]) -> bool {
+    let Some(bare) = bare_leaders(row, table, classes) else {
+        return false;
+    };
+    let mut chains = Chains::new(bare.len());
+    for (i, &p) in bare.iter().enumerate() {
+        let chain = chains.of(row, table, classes, p);
+        let in_chain = || chains.find(chain, |j| same_sign(row, table, classes, p, bare[j]));
+        if told_by_children(row, table, classes, p).or_else(in_chain).is_some() {
+            return false;
+        }
+        chains.put(chain, i);
+    }
+    true
+}
+
+/// Refusal 62, for a row whose table is right.
+pub fn check_classes(row: &[u16], table: &[u16], classes: &[u16]) -> Result<(), Refusal> {
+    if are_classes(row, table, classes) {
+        return Ok(());
+    }
+    let mut right = vec![0; row.len()];
+    fill_classes(row, table, &mut right);
+    match right.iter().zip(classes).position(|(r, c)| r != c) {
+        Some(first) => Err((62, first as u64)),
+        None => Ok(()),
+    }
+}
+
+/// Refusals 1 to 10, then 62.
+fn check_given(arities: &[u16], row: &[u16], table: &[u16], classes: &[u16]) -> Result<(), Refusal> {
+    check_ends(arities, row, &table[..table.len().min(classes.len())])?;
+    check_classes(row, table, classes)
+}
+
 fn check_pattern(arities: &[u16], pattern: &[u16]) -> Result<(), Refusal> {
     check_size(pattern.len(), 256, PATTERN)?;
     check_reading(arities, pattern, true, PATTERN)
 }
 
-pub fn build(arities: &[u16], row: &[u16], table: &mut [u16]) -> Result<(), Refusal> {
+pub fn build(arities: &[u16], row: &[u16], table: &mut [u16], classes: &mut [u16]) -> Result<(), Refusal> {
     check_alphabet(arities)?;
     check_size(row.len(), 16384, ROW)?;
-    if table.len() < row.len() {
+    if table.len() < row.len() || classes.len() < row.len() {
         return Err((6, row.len() as u64));
     }
     check_reading(arities, row, false, ROW)?;
     fill(arities, row, table, 0);
+    fill_classes(row, table, classes);
     Ok(())
 }
 
 /// Begin and end of each variable, if the pattern matches at p.
-fn match_at(row: &[u16], table: &[u16], pattern: &[u16], p: usize) -> Option<[(u16, u16); 16]> {
+fn match_at(row: &[u16], table: &[u16], classes: &[u16], pattern: &[u16], p: usize) -> Option<[(u16, u16); 16]> {
     if row[p] != pattern[0] && (pattern[0] < 65280) {
         return None;
     }
@@ -122,7 +288,7 @@ fn match_at(row: &[u16], table: &[u16], pattern: &[u16], p: usize) -> Option<[(u
             let (b, e) = spans[v];
             if e == 0 {
                 spans[v] = (j as u16, end as u16);
-            } else if row[b as usize..e as usize] != row[j..end] {
+            } else if classes[b as usize] != classes[j] {
                 return None;
             }
             j = end;
@@ -135,18 +301,18 @@ fn match_at(row: &[u16], table: &[u16], pattern: &[u16], p: usize) -> Option<[(u
     Some(spans)
 }
 
-pub fn find(arities: &[u16], row: &[u16], table: &[u16], pattern: &[u16], out: &mut [u16]) -> Result<usize, Refusal> {
-    check_given(arities, row, table)?;
+pub fn find(arities: &[u16], row: &[u16], table: &[u16], classes: &[u16], pattern: &[u16], out: &mut [u16]) -> Result<usize, Refusal> {
+    check_given(arities, row, table, classes)?;
     check_pattern(arities, pattern)?;
     if out.len() < row.len() {
-        let count = (0..row.len()).filter(|&p| match_at(row, table, pattern, p).is_some()).count();
+        let count = (0..row.len()).filter(|&p| match_at(row, table, classes, pattern, p).is_some()).count();
         if count > out.len() {
             return Err((19, count as u64));
         }
     }
     let mut count = 0;
     for p in 0..row.len() {
-        if match_at(row, table, pattern, p).is_some() {
+        if match_at(row, table, classes, pattern, p).is_some() {
             out[count] = p as u16;
             count += 1;
         }
@@ -154,8 +320,16 @@ pub fn find(arities: &[u16], row: &[u16], table: &[u16], pattern: &[u16], out: &
     Ok(count)
 }
 
-pub fn variables(arities: &[u16], row: &[u16], table: &[u16], pattern: &[u16], position: usize, out: &mut [u16]) -> Result<bool, Refusal> {
-    check_given(arities, row, table)?;
+pub fn variables(
+    arities: &[u16],
+    row: &[u16],
+    table: &[u16],
+    classes: &[u16],
+    pattern: &[u16],
+    position: usize,
+    out: &mut [u16],
+) -> Result<bool, Refusal> {
+    check_given(arities, row, table, classes)?;
     check_pattern(arities, pattern)?;
     if position >= row.len() {
         return Err((17, position as u64));
@@ -163,7 +337,7 @@ pub fn variables(arities: &[u16], row: &[u16], table: &[u16], pattern: &[u16], p
     if out.len() < 32 {
         return Err((19, 32));
     }
-    let Some(spans) = match_at(row, table, pattern, position) else {
+    let Some(spans) = match_at(row, table, classes, pattern, position) else {
         return Ok(false);
     };
     for (place, (b, e)) in out.chunks_exact_mut(2).zip(spans) {
@@ -173,14 +347,24 @@ pub fn variables(arities: &[u16], row: &[u16], table: &[u16], pattern: &[u16], p
     Ok(true)
 }
 
-pub fn replace(arities: &[u16], row: &mut [u16], table: &mut [u16], n: usize, replacement: &[u16], position: usize) -> Result<(usize, i32), Refusal> {
+pub fn replace(
+    arities: &[u16],
+    row: &mut [u16],
+    table: &mut [u16],
+    classes: &mut [u16],
+    n: usize,
+    replacement: &[u16],
+    position: usize,
+) -> Result<(usize, i32), Refusal> {
     check_alphabet(arities)?;
     check_size(n, 16384, ROW)?;
-    if row.len() < n || table.len() < n {
+    let room = row.len().min(table.len()).min(classes.len());
+    if room < n {
         return Err((6, n as u64));
     }
     check_reading(arities, &row[..n], false, ROW)?;
     check_table(arities, &row[..n], table)?;
+    check_classes(&row[..n], table, classes)?;
     check_size(replacement.len(), 16384, REPLACEMENT)?;
     check_reading(arities, replacement, false, REPLACEMENT)?;
     if position >= n {
@@ -189,7 +373,7 @@ pub fn replace(arities: &[u16], row: &mut [u16], table: &mut [u16], n: usize, re
     let end = table[position] as usize;
     let to = position + replacement.len();
     let new = to + (n - end);
-    if new > 16384 || new > row.len() || new > table.len() {
+    if new > 16384 || new > room {
         return Err((18, new as u64));
     }
     row.copy_within(end..n, to);
@@ -204,9 +388,11 @@ pub fn replace(arities: &[u16], row: &mut [u16], table: &mut [u16], n: usize, re
         *e = (*e as usize - end + to) as u16;
     }
     fill(arities, replacement, table, position);
+    fill_classes(&row[..new], table, classes);
     if new < n {
         row[new..n].fill(65535);
         table[new..n].fill(0);
+        classes[new..n].fill(0);
     }
     Ok((new, new as i32 - n as i32))
 }

@@ -14,23 +14,25 @@ pub struct Answer {
 type List = (*const u16, usize);
 
 macro_rules! calls {
-    ($($pass:ident $build:ident $find:ident $variables:ident $replace:ident $plain:ident)*) => { extern "C" { $(
+    ($($pass:ident $class_check:ident $build:ident $find:ident $variables:ident $replace:ident $plain:ident)*) => { extern "C" { $(
         fn $pass(arities: *const u16, symbols: usize, row: *const u16, n: usize, table: *const u16, room: usize) -> Answer;
-        fn $build(arities: *const u16, symbols: usize, row: *const u16, n: usize, table: *mut u16, room: usize) -> Answer;
+        fn $class_check(row: *const u16, n: usize, table: *const u16, room: usize, classes: *const u16, class_room: usize) -> Answer;
+        fn $build(arities: *const u16, symbols: usize, row: *const u16, n: usize, table: *mut u16, room: usize,
+            classes: *mut u16, class_room: usize) -> Answer;
         fn $find(arities: *const u16, symbols: usize, row: *const u16, n: usize, table: *const u16, room: usize,
-            pattern: *const u16, m: usize, out: *mut u16, places: usize) -> Answer;
+            classes: *const u16, class_room: usize, pattern: *const u16, m: usize, out: *mut u16, places: usize) -> Answer;
         fn $variables(arities: *const u16, symbols: usize, row: *const u16, n: usize, table: *const u16, room: usize,
-            pattern: *const u16, m: usize, position: usize, out: *mut u16, places: usize) -> Answer;
+            classes: *const u16, class_room: usize, pattern: *const u16, m: usize, position: usize, out: *mut u16, places: usize) -> Answer;
         fn $replace(arities: *const u16, symbols: usize, row: *mut u16, row_room: usize, table: *mut u16, room: usize,
-            n: usize, replacement: *const u16, m: usize, position: usize) -> Answer;
+            classes: *mut u16, class_room: usize, n: usize, replacement: *const u16, m: usize, position: usize) -> Answer;
         fn $plain(arities: *const u16, symbols: usize, row: *const u16, n: usize, pattern: *const u16, m: usize,
             position: usize) -> Answer;
     )* } };
 }
 calls! {
-    timed_pass timed_build timed_find timed_variables timed_replace timed_plain_match
-    c_pass c_build c_find c_variables c_replace c_plain_match
-    strong_pass strong_build strong_find strong_variables strong_replace strong_plain_match
+    timed_pass timed_class_check timed_build timed_find timed_variables timed_replace timed_plain_match
+    c_pass c_class_check c_build c_find c_variables c_replace c_plain_match
+    strong_pass strong_class_check strong_build strong_find strong_variables strong_replace strong_plain_match
 }
 
 /// What an exported function answers, as include/sparrowhem.h says.
@@ -51,15 +53,20 @@ impl Exported {
 // A list crosses as bytes, the low one of each number first, which is how numbers lie here.
 #[cfg(target_endian = "little")]
 extern "C" {
-    fn sparrowhem_build(arities: *const u16, symbols: usize, row: *const u16, n: usize, table: *mut u16, room: usize) -> Exported;
+    fn sparrowhem_build(arities: *const u16, symbols: usize, row: *const u16, n: usize, table: *mut u16, room: usize,
+        classes: *mut u16, class_room: usize) -> Exported;
     fn sparrowhem_find(arities: *const u16, symbols: usize, row: *const u16, n: usize, table: *const u16, room: usize,
-        pattern: *const u16, m: usize, out: *mut u16, places: usize) -> Exported;
+        classes: *const u16, class_room: usize, pattern: *const u16, m: usize, out: *mut u16, places: usize) -> Exported;
     fn sparrowhem_replace(arities: *const u16, symbols: usize, row: *mut u16, row_room: usize, table: *mut u16, room: usize,
-        n: u64, replacement: *const u16, m: usize, position: u64) -> Exported;
+        classes: *mut u16, class_room: usize, n: u64, replacement: *const u16, m: usize, position: u64) -> Exported;
 }
 
 fn list(xs: &[u16]) -> List {
     (xs.as_ptr(), xs.len())
+}
+
+fn written(xs: &mut [u16]) -> (*mut u16, usize) {
+    (xs.as_mut_ptr(), xs.len())
 }
 
 /// Who answers: the library, plain Rust, plain C, the strongest C; or the library's exported function of that name.
@@ -83,59 +90,80 @@ fn answered(r: Result<(u64, i32), baseline::Refusal>) -> Answer {
     }
 }
 
-/// Refusals 1 to 10 alone: the pass over row and table that every call with a table makes.
+/// Refusals 1 to 10 alone: the pass over row and table that every call with a table makes. It is asked where the row's length is
+/// in order and the table has room for it.
 pub fn pass(by: By, arities: &[u16], row: &[u16], table: &[u16]) -> Answer {
     let ((a, k), (w, n), (t, m)) = (list(arities), list(row), list(table));
     match by {
         By::Library => unsafe { timed_pass(a, k, w, n, t, m) },
-        By::Rust => answered(baseline::check_given(arities, row, table).map(|()| (0, 0))),
+        By::Rust => answered(baseline::check_ends(arities, row, table).map(|()| (0, 0))),
         By::C => unsafe { c_pass(a, k, w, n, t, m) },
         By::Strong => unsafe { strong_pass(a, k, w, n, t, m) },
         By::Exported => unreachable!("{NOT_EXPORTED}"),
     }
 }
 
-pub fn build(by: By, arities: &[u16], row: &[u16], table: &mut [u16]) -> Answer {
-    let ((a, k), (w, n), (t, m)) = (list(arities), list(row), (table.as_mut_ptr(), table.len()));
+/// Refusal 62 alone, which every call with classes looks for behind the pass. It is asked where row and table are right and the
+/// classes are as many as the row has symbols.
+pub fn class_check(by: By, row: &[u16], table: &[u16], classes: &[u16]) -> Answer {
+    let ((w, n), (t, m), (c, r)) = (list(row), list(table), list(classes));
     match by {
-        By::Library => unsafe { timed_build(a, k, w, n, t, m) },
-        By::Rust => answered(baseline::build(arities, row, table).map(|()| (row.len() as u64, 0))),
-        By::C => unsafe { c_build(a, k, w, n, t, m) },
-        By::Strong => unsafe { strong_build(a, k, w, n, t, m) },
-        By::Exported => unsafe { sparrowhem_build(a, 2 * k, w, 2 * n, t, 2 * m).answer() },
-    }
-}
-
-pub fn find(by: By, arities: &[u16], row: &[u16], table: &[u16], pattern: &[u16], out: &mut [u16]) -> Answer {
-    let ((a, k), (w, n), (t, m), (q, l), (o, p)) = (list(arities), list(row), list(table), list(pattern), (out.as_mut_ptr(), out.len()));
-    match by {
-        By::Library => unsafe { timed_find(a, k, w, n, t, m, q, l, o, p) },
-        By::Rust => answered(baseline::find(arities, row, table, pattern, out).map(|c| (c as u64, 0))),
-        By::C => unsafe { c_find(a, k, w, n, t, m, q, l, o, p) },
-        By::Strong => unsafe { strong_find(a, k, w, n, t, m, q, l, o, p) },
-        By::Exported => unsafe { sparrowhem_find(a, 2 * k, w, 2 * n, t, 2 * m, q, 2 * l, o, 2 * p).answer() },
-    }
-}
-
-pub fn variables(by: By, arities: &[u16], row: &[u16], table: &[u16], pattern: &[u16], position: usize, out: &mut [u16]) -> Answer {
-    let ((a, k), (w, n), (t, m), (q, l), (o, p)) = (list(arities), list(row), list(table), list(pattern), (out.as_mut_ptr(), out.len()));
-    match by {
-        By::Library => unsafe { timed_variables(a, k, w, n, t, m, q, l, position, o, p) },
-        By::Rust => answered(baseline::variables(arities, row, table, pattern, position, out).map(|y| (y as u64, 0))),
-        By::C => unsafe { c_variables(a, k, w, n, t, m, q, l, position, o, p) },
-        By::Strong => unsafe { strong_variables(a, k, w, n, t, m, q, l, position, o, p) },
+        By::Library => unsafe { timed_class_check(w, n, t, m, c, r) },
+        By::Rust => answered(baseline::check_classes(row, table, classes).map(|()| (0, 0))),
+        By::C => unsafe { c_class_check(w, n, t, m, c, r) },
+        By::Strong => unsafe { strong_class_check(w, n, t, m, c, r) },
         By::Exported => unreachable!("{NOT_EXPORTED}"),
     }
 }
 
-pub fn replace(by: By, arities: &[u16], row: &mut [u16], table: &mut [u16], n: usize, new: &[u16], position: usize) -> Answer {
-    let ((a, k), (w, r), (t, m), (v, l)) = (list(arities), (row.as_mut_ptr(), row.len()), (table.as_mut_ptr(), table.len()), list(new));
+pub fn build(by: By, arities: &[u16], row: &[u16], table: &mut [u16], classes: &mut [u16]) -> Answer {
+    let ((a, k), (w, n), (t, m), (c, r)) = (list(arities), list(row), written(table), written(classes));
     match by {
-        By::Library => unsafe { timed_replace(a, k, w, r, t, m, n, v, l, position) },
-        By::Rust => answered(baseline::replace(arities, row, table, n, new, position).map(|(l, c)| (l as u64, c))),
-        By::C => unsafe { c_replace(a, k, w, r, t, m, n, v, l, position) },
-        By::Strong => unsafe { strong_replace(a, k, w, r, t, m, n, v, l, position) },
-        By::Exported => unsafe { sparrowhem_replace(a, 2 * k, w, 2 * r, t, 2 * m, n as u64, v, 2 * l, position as u64).answer() },
+        By::Library => unsafe { timed_build(a, k, w, n, t, m, c, r) },
+        By::Rust => answered(baseline::build(arities, row, table, classes).map(|()| (row.len() as u64, 0))),
+        By::C => unsafe { c_build(a, k, w, n, t, m, c, r) },
+        By::Strong => unsafe { strong_build(a, k, w, n, t, m, c, r) },
+        By::Exported => unsafe { sparrowhem_build(a, 2 * k, w, 2 * n, t, 2 * m, c, 2 * r).answer() },
+    }
+}
+
+pub fn find(by: By, arities: &[u16], row: &[u16], table: &[u16], classes: &[u16], pattern: &[u16], out: &mut [u16]) -> Answer {
+    let ((a, k), (w, n), (t, m), (c, r), (q, l), (o, p)) = (list(arities), list(row), list(table), list(classes), list(pattern), written(out));
+    match by {
+        By::Library => unsafe { timed_find(a, k, w, n, t, m, c, r, q, l, o, p) },
+        By::Rust => answered(baseline::find(arities, row, table, classes, pattern, out).map(|c| (c as u64, 0))),
+        By::C => unsafe { c_find(a, k, w, n, t, m, c, r, q, l, o, p) },
+        By::Strong => unsafe { strong_find(a, k, w, n, t, m, c, r, q, l, o, p) },
+        By::Exported => unsafe { sparrowhem_find(a, 2 * k, w, 2 * n, t, 2 * m, c, 2 * r, q, 2 * l, o, 2 * p).answer() },
+    }
+}
+
+pub fn variables(by: By, arities: &[u16], row: &[u16], table: &[u16], classes: &[u16], pattern: &[u16], position: usize, out: &mut [u16]) -> Answer {
+    let ((a, k), (w, n), (t, m), (c, r), (q, l), (o, p)) = (list(arities), list(row), list(table), list(classes), list(pattern), written(out));
+    match by {
+        By::Library => unsafe { timed_variables(a, k, w, n, t, m, c, r, q, l, position, o, p) },
+        By::Rust => answered(baseline::variables(arities, row, table, classes, pattern, position, out).map(|y| (y as u64, 0))),
+        By::C => unsafe { c_variables(a, k, w, n, t, m, c, r, q, l, position, o, p) },
+        By::Strong => unsafe { strong_variables(a, k, w, n, t, m, c, r, q, l, position, o, p) },
+        By::Exported => unreachable!("{NOT_EXPORTED}"),
+    }
+}
+
+/// The buffers that replace changes.
+pub struct Buffers<'a> {
+    pub row: &'a mut [u16],
+    pub table: &'a mut [u16],
+    pub classes: &'a mut [u16],
+}
+
+pub fn replace(by: By, arities: &[u16], b: Buffers, n: usize, new: &[u16], position: usize) -> Answer {
+    let ((a, k), (w, s), (t, m), (c, r), (v, l)) = (list(arities), written(b.row), written(b.table), written(b.classes), list(new));
+    match by {
+        By::Library => unsafe { timed_replace(a, k, w, s, t, m, c, r, n, v, l, position) },
+        By::Rust => answered(baseline::replace(arities, b.row, b.table, b.classes, n, new, position).map(|(l, c)| (l as u64, c))),
+        By::C => unsafe { c_replace(a, k, w, s, t, m, c, r, n, v, l, position) },
+        By::Strong => unsafe { strong_replace(a, k, w, s, t, m, c, r, n, v, l, position) },
+        By::Exported => unsafe { sparrowhem_replace(a, 2 * k, w, 2 * s, t, 2 * m, c, 2 * r, n as u64, v, 2 * l, position as u64).answer() },
     }
 }
 

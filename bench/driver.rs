@@ -13,7 +13,7 @@ mod picture;
 mod rows;
 mod timing;
 
-use rows::{Rows, LENGTHS, SHAPES};
+use rows::{Rows, CLASS_SHAPES, COLLIDING, LENGTHS, SHAPES};
 use timing::{medians, Bench, Measured};
 
 fn time_all(quick: bool) -> Vec<Measured> {
@@ -24,12 +24,18 @@ fn time_all(quick: bool) -> Vec<Measured> {
         // room for the longer row within 16,384
         let roomy = Rows::new(shape, LENGTHS.map(|n| n.min(16384 - 8)).to_vec());
         agree::agree(&rows);
+        lines::kept(&mut bench, &rows);
         lines::searches(&mut bench, &rows);
         lines::plain(&mut bench, &rows);
         lines::refusals(&mut bench, &rows);
         lines::replacements(&mut bench, &roomy);
         lines::wide_alphabet(&mut bench, &Rows::new(shape, vec![256]));
         lines::exported(&mut bench, &roomy);
+    }
+    for shape in CLASS_SHAPES.into_iter().chain(COLLIDING) {
+        let rows = Rows::new(shape, LENGTHS.to_vec());
+        agree::agree(&rows);
+        lines::kept(&mut bench, &rows);
     }
     lines::slowest(&mut bench);
     bench.measured

@@ -1,6 +1,6 @@
 //! The lines of the benchmark: which call is timed on what, and beside which yardstick.
 
-use crate::calls::{build, find, pass, plain_match, replace, variables, Answer, By};
+use crate::calls::{build, class_check, find, pass, plain_match, replace, variables, Answer, Buffers, By};
 use crate::rows::{alphabet, Programme, Rows, FIFTEEN, ONE, TWO};
 use crate::timing::Bench;
 
@@ -35,32 +35,72 @@ pub fn patterns(shape: &str, p: &Programme) -> Vec<(&'static str, Vec<u16>)> {
     all
 }
 
-/// Pass, build, find and variables. The yardstick is a pass; of find with an output shorter than the row, find with room.
-pub fn searches(bench: &mut Bench, rows: &Rows) {
-    let arities = alphabet();
-    let (mut table, mut out, mut room, mut spans) = (vec![0; 16384], vec![0; 16384], vec![0; 16384], [0; 32]);
-    let beside = |l, k| pass(By::Library, &arities, &rows.at(l, k).row, &rows.at(l, k).table);
-    bench.add(["pass", "accepted"], rows, |by, l, k| pass(by, &arities, &rows.at(l, k).row, &rows.at(l, k).table), beside);
-    bench.add(["build", "accepted"], rows, |by, l, k| build(by, &arities, &rows.at(l, k).row, &mut table), beside);
-    let sought = rows.map(|p| patterns(rows.shape, p));
-    for (which, (on, _)) in sought[0][0].iter().enumerate() {
-        let seek = |by, l: usize, k: usize, out: &mut [u16]| {
-            let (p, same) = (rows.at(l, k), &sought[l]);
-            find(by, &arities, &p.row, &p.table, &same[k % same.len()][which].1, out)
+/// A pass over the row and the table of a programme.
+fn pass_over(by: By, rows: &Rows, l: usize, k: usize) -> Answer {
+    let p = rows.at(l, k);
+    pass(by, &rows.arities, &p.row, &p.table)
+}
+
+/// What each call with a table does first, by the library: a pass, and the check of the classes.
+fn checked(rows: &Rows, l: usize, k: usize) -> Answer {
+    pass_over(By::Library, rows, l, k);
+    let p = rows.at(l, k);
+    class_check(By::Library, &p.row, &p.table, &p.classes)
+}
+
+/// Pass, check of the classes, build. The yardstick is a pass; of a wrong class, what it may cost: the check of right ones, a build
+/// and a pass.
+pub fn kept(bench: &mut Bench, rows: &Rows) {
+    let (mut table, mut classes) = (vec![0; 16384], vec![0; 16384]);
+    let beside = |l, k| pass_over(By::Library, rows, l, k);
+    let mut built = |by, l, k| build(by, &rows.arities, &rows.at(l, k).row, &mut table, &mut classes);
+    bench.add(["pass", "accepted"], rows, |by, l, k| pass_over(by, rows, l, k), beside);
+    bench.add(["build", "accepted"], rows, &mut built, beside);
+    let first = rows.with(|p| p.classes[0] ^= 1);
+    let last = rows.with(|p| *p.classes.last_mut().expect("a class") ^= 1);
+    let check = |rows: &Rows, by, l, k| class_check(by, &rows.at(l, k).row, &rows.at(l, k).table, &rows.at(l, k).classes);
+    bench.add(["class check", "right classes"], rows, |by, l, k| check(rows, by, l, k), beside);
+    for (on, wrong) in [("refused for a wrong first class", first), ("refused for a wrong last class", last)] {
+        let at_most = |l, k| {
+            checked(rows, l, k);
+            built(By::Library, l, k)
         };
-        bench.add(["find", on], rows, |by, l, k| seek(by, l, k, &mut out), beside);
+        bench.add(["class check", on], rows, |by, l, k| check(&wrong, by, l, k), at_most);
+    }
+}
+
+/// Find and variables. The yardstick is what they check first; of find with an output shorter than the row, find with room; of
+/// find with repeated variables, find with the same root over S.
+pub fn searches(bench: &mut Bench, rows: &Rows) {
+    let (mut out, mut room, mut spans) = (vec![0; 16384], vec![0; 16384], [0; 32]);
+    let sought = rows.map(|p| patterns(rows.shape, p));
+    let seek = |which: usize, by, l: usize, k: usize, out: &mut [u16]| {
+        let (p, same) = (rows.at(l, k), &sought[l]);
+        find(by, &rows.arities, &p.row, &p.table, &p.classes, &same[k % same.len()][which].1, out)
+    };
+    let names: Vec<&str> = sought[0][0].iter().map(|(on, _)| *on).collect();
+    let common = names.iter().position(|on| *on == "common root").expect("a common root");
+    for (which, on) in names.into_iter().enumerate() {
+        let call = |by, l, k| seek(which, by, l, k, &mut out);
+        if on == "repeated variables" {
+            bench.add(["find", on], rows, call, |l, k| seek(common, By::Library, l, k, &mut room));
+            continue;
+        }
+        bench.add(["find", on], rows, call, |l, k| checked(rows, l, k));
         if on.ends_with("root") {
-            let short = |by, l, k| seek(by, l, k, &mut out[..rows.lengths[l] - 1]);
-            bench.add(["find", &format!("{on} and short output")], rows, short, |l, k| seek(By::Library, l, k, &mut room));
+            let short = |by, l, k| seek(which, by, l, k, &mut out[..rows.lengths[l] - 1]);
+            bench.add(["find", &format!("{on} and short output")], rows, short, |l, k| seek(which, By::Library, l, k, &mut room));
         }
     }
-    let call = |by, l, k| variables(by, &arities, &rows.at(l, k).row, &rows.at(l, k).table, &[X0], 0, &mut spans);
-    bench.add(["variables", "bare X0"], rows, call, beside);
+    let call = |by, l, k| {
+        let p = rows.at(l, k);
+        variables(by, &rows.arities, &p.row, &p.table, &p.classes, &[X0], 0, &mut spans)
+    };
+    bench.add(["variables", "bare X0"], rows, call, |l, k| checked(rows, l, k));
 }
 
 /// The plain matcher. The yardstick is a pass.
 pub fn plain(bench: &mut Bench, rows: &Rows) {
-    let arities = alphabet();
     let first = |p: &Programme| p.row.iter().position(|&s| s == common(rows.shape)).unwrap_or(0);
     let last = |p: &Programme| p.row.iter().rposition(|&s| s > 1).unwrap_or(0);
     let asked = [
@@ -72,15 +112,14 @@ pub fn plain(bench: &mut Bench, rows: &Rows) {
     for (on, all) in &asked {
         let call = |by, l: usize, k: usize| {
             let (at, pattern) = &all[l][k % all[l].len()];
-            plain_match(by, &arities, &rows.at(l, k).row, pattern, *at)
+            plain_match(by, &rows.arities, &rows.at(l, k).row, pattern, *at)
         };
-        bench.add(["plain matcher", on], rows, call, |l, k| pass(By::Library, &arities, &rows.at(l, k).row, &rows.at(l, k).table));
+        bench.add(["plain matcher", on], rows, call, |l, k| pass_over(By::Library, rows, l, k));
     }
 }
 
 /// Rows with a little room behind, and a leaf of each: where it stands, and what is put in its place.
 struct Edits<'a> {
-    arities: Vec<u16>,
     rows: &'a Rows,
     roomy: Rows,
     leaves: Vec<Vec<usize>>,
@@ -94,18 +133,22 @@ impl<'a> Edits<'a> {
             let leaves: Vec<usize> = (0..p.row.len()).filter(|&at| p.row[at] < 2).collect();
             leaves[(leaves.len() - 1) * quarters / 4]
         });
-        let roomy = rows.with(|p| [&mut p.row, &mut p.table].into_iter().for_each(|list| list.extend([0; 8])));
-        Edits { arities: alphabet(), rows, roomy, leaves, new }
+        let roomy = rows.with(|p| [&mut p.row, &mut p.table, &mut p.classes].into_iter().for_each(|list| list.extend([0; 8])));
+        Edits { rows, roomy, leaves, new }
     }
 
     /// A replacement and putting back: the row is then as it was.
     fn there_and_back(&mut self, by: By, l: usize, k: usize) -> Answer {
         let which = k % self.leaves[l].len();
         let (p, at) = (&mut self.roomy.all[l][which], self.leaves[l][which]);
-        let there = replace(by, &self.arities, &mut p.row, &mut p.table, self.rows.lengths[l], self.new, at);
+        let there = replace(by, &self.rows.arities, buffers(p), self.rows.lengths[l], self.new, at);
         let old = &self.rows.all[l][which].row[at..at + 1];
-        replace(by, &self.arities, &mut p.row, &mut p.table, there.count as usize, old, at)
+        replace(by, &self.rows.arities, buffers(p), there.count as usize, old, at)
     }
+}
+
+fn buffers(p: &mut Programme) -> Buffers<'_> {
+    Buffers { row: &mut p.row, table: &mut p.table, classes: &mut p.classes }
 }
 
 /// What is put in a leaf's place.
@@ -113,9 +156,8 @@ const NEW: [(&str, &[u16]); 2] = [("same size", &[1]), ("grow and shrink", &[ONE
 
 /// A replacement and putting back, together; and the whole row replaced by itself. The yardstick is a build.
 pub fn replacements(bench: &mut Bench, rows: &Rows) {
-    let arities = alphabet();
-    let mut table = vec![0; 16384];
-    let mut beside = |l, k| build(By::Library, &arities, &rows.at(l, k).row, &mut table);
+    let (mut table, mut classes) = (vec![0; 16384], vec![0; 16384]);
+    let mut beside = |l, k| build(By::Library, &rows.arities, &rows.at(l, k).row, &mut table, &mut classes);
     for (place, quarters) in [("at the front", 0), ("in the middle", 2), ("at the end", 4)] {
         for (on, new) in NEW {
             let mut edits = Edits::new(rows, quarters, new);
@@ -127,22 +169,25 @@ pub fn replacements(bench: &mut Bench, rows: &Rows) {
     let call = |by, l: usize, k: usize| {
         let which = k % rows.all[l].len();
         let p = &mut roomy.all[l][which];
-        replace(by, &arities, &mut p.row, &mut p.table, rows.lengths[l], &rows.all[l][which].row, 0)
+        replace(by, &rows.arities, buffers(p), rows.lengths[l], &rows.all[l][which].row, 0)
     };
     bench.add(["replace", "whole row"], rows, call, &mut beside);
 }
 
 /// Refused input: a bad last number, and a stale first and last entry. The yardstick is a pass over the same rows, accepted.
 pub fn refusals(bench: &mut Bench, rows: &Rows) {
-    let arities = alphabet();
-    let (mut table, mut out) = (vec![0; 16384], vec![0; 16384]);
-    let beside = |l, k| pass(By::Library, &arities, &rows.at(l, k).row, &rows.at(l, k).table);
+    let (mut table, mut classes, mut out) = (vec![0; 16384], vec![0; 16384], vec![0; 16384]);
+    let beside = |l, k| pass_over(By::Library, rows, l, k);
     let bad = rows.with(|p| *p.row.last_mut().expect("a symbol") = 999);
-    bench.add(["build", "refused for a bad last number"], rows, |by, l, k| build(by, &arities, &bad.at(l, k).row, &mut table), beside);
+    let call = |by, l, k| build(by, &rows.arities, &bad.at(l, k).row, &mut table, &mut classes);
+    bench.add(["build", "refused for a bad last number"], rows, call, beside);
     let first = rows.with(|p| p.table[0] ^= 1);
     let last = rows.with(|p| *p.table.last_mut().expect("an entry") ^= 1);
     for (on, stale) in [("refused for a stale first entry", first), ("refused for a stale last entry", last)] {
-        let call = |by, l, k| find(by, &arities, &stale.at(l, k).row, &stale.at(l, k).table, &[S], &mut out);
+        let call = |by, l, k| {
+            let p = stale.at(l, k);
+            find(by, &rows.arities, &p.row, &p.table, &p.classes, &[S], &mut out)
+        };
         bench.add(["find", on], rows, call, beside);
     }
 }
@@ -155,29 +200,34 @@ pub fn wide_alphabet(bench: &mut Bench, rows: &Rows) {
     bench.add(["pass", "alphabet of 1024 symbols"], rows, |by, l, k| call(&many, by, l, k), |l, k| call(&few, By::Library, l, k));
 }
 
-/// The inputs that find was slowest on. The yardstick is a pass; with an output shorter than the row, find with room.
+/// The inputs that find was slowest on. The yardstick is what it checks first; with an output shorter than the row, find with room.
 pub fn slowest(bench: &mut Bench) {
-    let arities = alphabet();
     let (mut out, mut room) = (vec![0; 16384], vec![0; 16384]);
     let chain = |last| [vec![ONE; 255], vec![last]].concat();
     let comb = [[TWO, X0].repeat(127), vec![S]].concat();
     for (on, shape, pattern) in [("repeated leaf", "right comb", comb), ("fixed chain", "chain", chain(0)), ("chain over S", "chain", chain(S))] {
         let rows = Rows::new(shape, vec![16384]);
         let p = rows.at(0, 0);
-        let mut seek = |by, _, _| find(by, &arities, &p.row, &p.table, &pattern, &mut out);
-        bench.add(["find on its slowest", on], &rows, &mut seek, |_, _| pass(By::Library, &arities, &p.row, &p.table));
-        let short = |by, _, _| find(by, &arities, &p.row, &p.table, &pattern, &mut room[..16383]);
+        let mut seek = |by, _, _| find(by, &rows.arities, &p.row, &p.table, &p.classes, &pattern, &mut out);
+        bench.add(["find on its slowest", on], &rows, &mut seek, |l, k| checked(&rows, l, k));
+        let short = |by, _, _| find(by, &rows.arities, &p.row, &p.table, &p.classes, &pattern, &mut room[..16383]);
         bench.add(["find on its slowest", &format!("{on} and short output")], &rows, short, |l, k| seek(By::Library, l, k));
     }
 }
 
 /// The functions that the library exports to C. The yardstick of each is the inner call on the same rows.
 pub fn exported(bench: &mut Bench, rows: &Rows) {
-    let arities = alphabet();
-    let (mut table, mut out) = (vec![0; 16384], vec![0; 16384]);
-    bench.exported(["sparrowhem_build", "accepted"], rows, |by, l, k| build(by, &arities, &rows.at(l, k).row, &mut table[..rows.lengths[l]]));
+    let (mut table, mut classes, mut out) = (vec![0; 16384], vec![0; 16384], vec![0; 16384]);
+    let call = |by, l, k| {
+        let n = rows.lengths[l];
+        build(by, &rows.arities, &rows.at(l, k).row, &mut table[..n], &mut classes[..n])
+    };
+    bench.exported(["sparrowhem_build", "accepted"], rows, call);
     for (on, pattern) in [("rare root", over(15, S)), ("common root", over(common(rows.shape), S))] {
-        let call = |by, l, k| find(by, &arities, &rows.at(l, k).row, &rows.at(l, k).table, &pattern, &mut out[..rows.lengths[l]]);
+        let call = |by, l, k| {
+            let p = rows.at(l, k);
+            find(by, &rows.arities, &p.row, &p.table, &p.classes, &pattern, &mut out[..rows.lengths[l]])
+        };
         bench.exported(["sparrowhem_find", on], rows, call);
     }
     for (on, new) in NEW {

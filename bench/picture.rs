@@ -26,8 +26,9 @@ pub fn calls(all: &[Measured]) -> String {
     text
 }
 
-const DRAWN: [(&str, &str, &str); 6] = [
+const DRAWN: [(&str, &str, &str); 7] = [
     ("build", "accepted", "#1b6ca8"),
+    ("class check", "right classes", "#7f8c8d"),
     ("find", "common root", "#c0392b"),
     ("find", "repeated variables", "#8e44ad"),
     ("variables", "bare X0", "#27864f"),

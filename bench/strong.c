@@ -147,24 +147,15 @@ INLINE answer check_sizes(const uint16_t *arities, size_t symbols, size_t n, siz
 }
 
 /* Refusals 1 to 10. */
-INLINE answer check_given(const uint16_t *arities, size_t symbols, const uint16_t *row, size_t n, const uint16_t *table,
-                          size_t room) {
+INLINE answer check_ends(const uint16_t *arities, size_t symbols, const uint16_t *row, size_t n, const uint16_t *table,
+                         size_t room) {
     answer a = check_sizes(arities, symbols, n, room);
     if (UNLIKELY(a.refusal)) return a;
     return UNLIKELY(!is_kept(arities, symbols, row, n, table)) ? kept_fault(arities, symbols, row, n, table) : counted(0);
 }
 
 answer strong_pass(const uint16_t *arities, size_t symbols, const uint16_t *row, size_t n, const uint16_t *table, size_t room) {
-    return check_given(arities, symbols, row, n, table, room);
-}
-
-answer strong_build(const uint16_t *arities, size_t symbols, const uint16_t *row, size_t n, uint16_t *table, size_t room) {
-    answer a = check_sizes(arities, symbols, n, room);
-    if (UNLIKELY(a.refusal)) return a;
-    uint16_t ends[MOST];
-    if (UNLIKELY(!ends_of(arities, symbols, row, n, ends, 0))) return reading_fault(arities, symbols, row, n, ROW);
-    memcpy(table, ends, n * sizeof *table);
-    return counted(n);
+    return check_ends(arities, symbols, row, n, table, room);
 }
 
 /* Four numbers that stand side by side, read at once. */
@@ -185,6 +176,218 @@ INLINE bool equal(const uint16_t *a, const uint16_t *b, size_t n) {
     for (size_t i = 0; i + 4 <= n; i += 4)
         if (four_at(a + i) != four_at(b + i)) return false;
     return four_at(a + n - 4) == four_at(b + n - 4);
+}
+
+/* Classes of a row whose table is right: for each position the first whose subtree is equal. Two subtrees are equal exactly if
+ * they have the same symbol and their children have pairwise the same classes. */
+
+INLINE uint32_t mixed(uint32_t hash, uint32_t number) { return (hash ^ number) * 0x9E3779B1u; }
+
+INLINE uint32_t spread(uint32_t hash) { return (hash ^ hash >> 15) * 0x2C1B3C6Du; }
+
+/* Subtrees of one size, at p and at p + by: have their children the same classes? */
+INLINE bool same_children(const uint16_t *restrict table, const uint16_t *restrict classes, size_t p, size_t by) {
+    size_t end = table[p], y = p + 1;
+    while (y < end && classes[y] == classes[y + by]) y = table[y];
+    return y == end;
+}
+
+/* A position leads if its class is its own; it is bare if no other below it leads. The bare ones, chained by symbol and classes
+ * of the children. */
+enum { NONE = 0xffff };
+
+typedef struct {
+    uint16_t bare[MOST / 2 + 1], next[MOST / 2], heads[MOST];
+} leaders;
+
+/* Is none of them equal to an earlier leader? A leader with another below it could be equal only where the children's classes
+ * say that it stands; among the bare ones it is looked for by its hash. */
+INLINE bool bare_differ(const uint16_t *restrict row, const uint16_t *restrict table, const uint16_t *restrict classes,
+                        leaders *restrict l, size_t many) {
+    size_t heads = STRIDE;
+    while (heads < 2 * many && heads < MOST) heads *= 2;
+    memset(l->heads, 0xff, heads * sizeof *l->heads);
+    for (size_t i = 0; i < many; i++) {
+        size_t p = l->bare[i], end = table[p];
+        uint32_t symbol = row[p], hash = symbol * 0x85EBCA6Bu;
+        for (size_t y = p + 1; y < end; y = table[y]) {
+            size_t r = classes[y] - (y - p); /* far behind p where the class is smaller than y - p */
+            hash = mixed(hash, classes[y]);
+            if (UNLIKELY(r < p && row[r] == symbol && classes[r] == r && table[r] - r == end - p && same_children(table, classes, p, r - p)))
+                return false;
+        }
+        uint16_t *head = l->heads + (spread(hash) >> 16 & (heads - 1));
+        for (uint32_t j = *head; j != NONE; j = l->next[j]) {
+            size_t r = l->bare[j];
+            if (table[r] - r == end - p && row[r] == symbol && same_children(table, classes, p, r - p)) return false;
+        }
+        l->next[i] = *head;
+        *head = (uint16_t)i;
+    }
+    return true;
+}
+
+/* Do all of a stride lead, and none of them is a leaf? Then each is below the one before, and only the last can be bare. Most often
+ * the first two tell that it is not so. */
+INLINE bool all_lead(const uint16_t table[STRIDE], const uint16_t classes[STRIDE], size_t p) {
+    uint16_t other = 0;
+    if (table[0] == p + 1 || table[1] == p + 2 || classes[1] != p + 1) return false;
+    for (size_t i = 0; i < STRIDE; i++) other |= (classes[i] != (uint16_t)(p + i)) | (table[i] == (uint16_t)(p + i + 1));
+    return !other;
+}
+
+/* Are they the row's? From left to right: a class that is not its position's own names a leader, whose subtree and the classes in
+ * it are compared as a part, and the subtree is passed over. Then no two leaders may be equal. Of two that are, the later of the
+ * least ones is bare, so only bare ones are looked at. Two leaves that lead have not the same symbol. */
+APART bool are_classes(const uint16_t *restrict row, size_t n, const uint16_t *restrict table, const uint16_t *restrict classes) {
+    leaders l;
+    uint64_t seen[MOST_SYMBOLS / 64] = {0}; /* a bit for each leaf that leads */
+    size_t many = 0, last = 0, end = MOST + 1; /* the last leader, and its end where it has children */
+    for (size_t p = 0; p < n;) {
+        size_t stop = p + STRIDE - p % STRIDE;
+        if (stop > n) stop = n;
+        while (p < stop) {
+            size_t q = classes[p], after = table[p];
+            if (q == p) {
+                l.bare[many] = (uint16_t)last;
+                many += p >= end;
+                last = p;
+                end = after;
+                if (after == p + 1) {
+                    uint64_t bit = UINT64_C(1) << row[p] % 64, *of = seen + row[p] / 64;
+                    if (UNLIKELY(*of & bit)) return false;
+                    *of |= bit;
+                    end = MOST + 1;
+                }
+                p++;
+                continue;
+            }
+            if (UNLIKELY(q > p || classes[q] != q || row[q] != row[p])) return false;
+            if (after != p + 1 && UNLIKELY(!equal(row + p + 1, row + q + 1, after - p - 1) || !equal(classes + p + 1, classes + q + 1, after - p - 1)))
+                return false;
+            p = after;
+        }
+        if (p != last + 1 || p >= end || end > MOST) continue; /* a run of leaders, each with the next as its child, stands here */
+        while (p + STRIDE <= n && all_lead(table + p, classes + p, p)) p += STRIDE;
+        last = p - 1;
+        end = table[last];
+    }
+    l.bare[many] = (uint16_t)last;
+    many += n >= end;
+    return many == 0 || bare_differ(row, table, classes, &l, many);
+}
+
+/* While they are filled in, a position holds the last one with an equal subtree; one that is the last itself holds a mark and the next
+ * of its chain (0 for none: nothing is equal to the root), and where its first is known, that. */
+enum { LAST = 0x8000, NOTED = 0xc000, PLACE = 0x3fff, FEW = 128, HEADS = 2048 };
+
+/* The last position whose subtree is equal to the one at p, which holds no last one; 0 if there is none, and the hash then. One with
+ * another last one below it stands where the children say; the others are in the chains. */
+INLINE size_t last_equal(const uint16_t *restrict row, const uint16_t *restrict table, const uint16_t *restrict classes,
+                         const uint16_t *restrict heads, uint32_t many, size_t p, size_t end, uint32_t *hash) {
+    uint32_t symbol = row[p], mix = symbol * 0x85EBCA6Bu;
+    for (size_t y = p + 1; y < end; y = table[y]) {
+        size_t r = classes[y] - (y - p), z = p + 1;
+        mix = mixed(mix, classes[y]);
+        if (!((row[r] == symbol) & (classes[r] >= LAST) & (table[r] - r == end - p))) continue;
+        while (z < end && classes[z] == (classes[z + r - p] < LAST ? classes[z + r - p] : z + r - p)) z = table[z];
+        if (z == end) return r;
+    }
+    *hash = (uint32_t)((uint64_t)spread(mix) * many >> 32);
+    for (size_t r = heads[*hash]; r != 0; r = classes[r] & PLACE)
+        if (table[r] - r == end - p && row[r] == symbol && same_children(table, classes, p, r - p)) return r;
+    return 0;
+}
+
+/* From right to left. What has a last one below it is a last one itself, and not looked up. */
+INLINE void fill_lasts(const uint16_t *restrict row, size_t n, const uint16_t *restrict table, uint16_t *restrict classes,
+                       uint16_t *restrict leaves, uint16_t *restrict heads, uint32_t many) {
+    size_t newest = n;
+    for (size_t p = n; p-- > 0;) {
+        size_t end = table[p];
+        if (end == p + 1) {
+            uint16_t *leaf = leaves + row[p], r = *leaf;
+            classes[p] = r ? r : LAST;
+            *leaf = (uint16_t)(r ? r : p);
+            newest = r ? newest : p;
+            continue;
+        }
+        if (newest < end) {
+            classes[p] = LAST;
+            newest = p;
+            continue;
+        }
+        uint32_t hash = 0;
+        size_t r = last_equal(row, table, classes, heads, many, p, end, &hash);
+        classes[p] = (uint16_t)r;
+        if (r != 0) continue;
+        classes[p] = (uint16_t)(LAST | heads[hash]);
+        heads[hash] = (uint16_t)p;
+        newest = p;
+    }
+}
+
+/* From left to right, without a branch. What is noted is not noted again, so that no turn waits for the one before. */
+INLINE void fill_firsts(size_t n, uint16_t *restrict classes) {
+    for (size_t p = 0; p < n; p++) {
+        size_t last = classes[p] < LAST ? classes[p] : p, noted = classes[last];
+        bool known = noted >= NOTED;
+        size_t first = known ? noted & PLACE : p;
+        classes[known ? p : last] = (uint16_t)(NOTED | first);
+        classes[p] = (uint16_t)first;
+    }
+}
+
+/* A short row takes less room. */
+APART void fill_classes(const uint16_t *restrict row, size_t n, const uint16_t *restrict table, uint16_t *restrict classes) {
+    uint16_t leaves[MOST_SYMBOLS];
+    if (n <= FEW) {
+        uint16_t heads[FEW] = {0}, largest = 0;
+        for (size_t p = 0; p < n; p++) largest = largest < row[p] ? row[p] : largest;
+        memset(leaves, 0, (largest + 1u) * sizeof *leaves);
+        fill_lasts(row, n, table, classes, leaves, heads, FEW);
+    } else {
+        uint16_t heads[HEADS] = {0};
+        memset(leaves, 0, sizeof leaves);
+        fill_lasts(row, n, table, classes, leaves, heads, HEADS);
+    }
+    fill_firsts(n, classes);
+}
+
+/* Where the first wrong class stands, once it is known that there is one. */
+COLD answer class_fault(const uint16_t *row, size_t n, const uint16_t *table, const uint16_t *classes) {
+    uint16_t right[MOST];
+    fill_classes(row, n, table, right);
+    size_t first = 0;
+    while (right[first] == classes[first]) first++;
+    return refused(62, first);
+}
+
+/* Refusals 1 to 10, then 62. */
+INLINE answer check_given(const uint16_t *arities, size_t symbols, const uint16_t *row, size_t n, const uint16_t *table,
+                          const uint16_t *classes, size_t room) {
+    answer a = check_ends(arities, symbols, row, n, table, room);
+    if (UNLIKELY(a.refusal)) return a;
+    return UNLIKELY(!are_classes(row, n, table, classes)) ? class_fault(row, n, table, classes) : counted(0);
+}
+
+INLINE size_t shorter(size_t a, size_t b) { return a < b ? a : b; }
+
+answer strong_class_check(const uint16_t *row, size_t n, const uint16_t *table, size_t room, const uint16_t *classes,
+                          size_t class_room) {
+    if (UNLIKELY(shorter(room, class_room) < n)) return refused(6, n);
+    return UNLIKELY(!are_classes(row, n, table, classes)) ? class_fault(row, n, table, classes) : counted(0);
+}
+
+answer strong_build(const uint16_t *arities, size_t symbols, const uint16_t *row, size_t n, uint16_t *table, size_t room,
+                    uint16_t *classes, size_t class_room) {
+    answer a = check_sizes(arities, symbols, n, shorter(room, class_room));
+    if (UNLIKELY(a.refusal)) return a;
+    uint16_t ends[MOST];
+    if (UNLIKELY(!ends_of(arities, symbols, row, n, ends, 0))) return reading_fault(arities, symbols, row, n, ROW);
+    memcpy(table, ends, n * sizeof *table);
+    fill_classes(row, n, table, classes);
+    return counted(n);
 }
 
 /* What is known of a pattern once it is checked: which of the variables stand in it more than once, whether it is symbols only,
@@ -262,15 +465,9 @@ static void make_ready(ready *r, const uint16_t *pattern, const known *k) {
     }
 }
 
-/* Are the subtrees at a and at b equal? */
-INLINE bool same_subtree(const uint16_t *row, const uint16_t *table, size_t a, size_t b) {
-    size_t n = table[b] - b;
-    return row[a] == row[b] && table[a] - a == n && equal(row + a, row + b, n);
-}
-
 /* Does what stands behind the pattern's root fit, from position j on? */
-INLINE bool fits(const uint16_t *row, size_t n, const uint16_t *table, const ready *r, size_t j) {
-    uint16_t first[VARIABLES];
+INLINE bool fits(const uint16_t *row, size_t n, const uint16_t *table, const uint16_t *classes, const ready *r, size_t j) {
+    uint16_t first[VARIABLES]; /* the class of each variable's first place */
     const uint16_t *symbols = r->symbols;
     for (const step *s = r->step, *end = s + r->steps; s != end; s++) {
         switch (s->what) {
@@ -279,9 +476,9 @@ INLINE bool fits(const uint16_t *row, size_t n, const uint16_t *table, const rea
             symbols += s->which;
             j += s->which;
             continue;
-        case FIRST: first[s->which] = (uint16_t)j; break;
+        case FIRST: first[s->which] = classes[j]; break;
         case AGAIN:
-            if (!same_subtree(row, table, first[s->which], j)) return false;
+            if (first[s->which] != classes[j]) return false;
         }
         j = table[j];
     }
@@ -306,22 +503,22 @@ enum { STRETCH, PAIR, STEPS };
 
 /* Which of the places are matches; they are kept in their order. */
 INLINE size_t matches_of(int kind, const uint16_t *restrict row, size_t n, const uint16_t *restrict table,
-                         const uint16_t *restrict pattern, size_t m, const ready *restrict r, uint16_t *restrict places,
-                         size_t many) {
+                         const uint16_t *restrict classes, const uint16_t *restrict pattern, size_t m, const ready *restrict r,
+                         uint16_t *restrict places, size_t many) {
     size_t count = 0;
     for (size_t i = 0; i < many; i++) {
         size_t p = places[i];
         if (kind == STRETCH && !equal(row + p, pattern, m)) continue;
-        if (kind == PAIR && !same_subtree(row, table, p + 1, table[p + 1])) continue;
-        if (kind == STEPS && !fits(row, n, table, r, p + 1)) continue;
+        if (kind == PAIR && classes[p + 1] != classes[table[p + 1]]) continue;
+        if (kind == STEPS && !fits(row, n, table, classes, r, p + 1)) continue;
         places[count++] = (uint16_t)p;
     }
     return count;
 }
 
 /* Writes the matches to `out`, which has a place for each symbol of the row. */
-static size_t search(const uint16_t *restrict row, size_t n, const uint16_t *restrict table, const uint16_t *restrict pattern,
-                     size_t m, const known *k, uint16_t *restrict out) {
+static size_t search(const uint16_t *restrict row, size_t n, const uint16_t *restrict table, const uint16_t *restrict classes,
+                     const uint16_t *restrict pattern, size_t m, const known *k, uint16_t *restrict out) {
     size_t count = 0;
     uint16_t places[STRIDE];
     ready r;
@@ -334,9 +531,9 @@ static size_t search(const uint16_t *restrict row, size_t n, const uint16_t *res
     for (size_t p = 0; p + m <= n; p += STRIDE) {
         size_t many = places_of(row, n - m + 1, table, pattern[0], k->fixed ? m : 0, p, places);
         if (many == 0) continue;
-        if (k->fixed) many = matches_of(STRETCH, row, n, table, pattern, m, &r, places, many);
-        else if (pair) many = matches_of(PAIR, row, n, table, pattern, m, &r, places, many);
-        else if (k->told > 1) many = matches_of(STEPS, row, n, table, pattern, m, &r, places, many);
+        if (k->fixed) many = matches_of(STRETCH, row, n, table, classes, pattern, m, &r, places, many);
+        else if (pair) many = matches_of(PAIR, row, n, table, classes, pattern, m, &r, places, many);
+        else if (k->told > 1) many = matches_of(STEPS, row, n, table, classes, pattern, m, &r, places, many);
         memcpy(out + count, places, many * sizeof *out);
         count += many;
     }
@@ -344,22 +541,23 @@ static size_t search(const uint16_t *restrict row, size_t n, const uint16_t *res
 }
 
 answer strong_find(const uint16_t *arities, size_t symbols, const uint16_t *row, size_t n, const uint16_t *table, size_t room,
-                   const uint16_t *pattern, size_t m, uint16_t *out, size_t places) {
+                   const uint16_t *classes, size_t class_room, const uint16_t *pattern, size_t m, uint16_t *out, size_t places) {
     known k = {0};
     uint16_t beside[MOST];
-    answer a = check_given(arities, symbols, row, n, table, room);
+    answer a = check_given(arities, symbols, row, n, table, classes, shorter(room, class_room));
     if (UNLIKELY(a.refusal)) return a;
     a = check_pattern(arities, symbols, pattern, m, &k);
     if (UNLIKELY(a.refusal)) return a;
-    if (places >= n) return counted(search(row, n, table, pattern, m, &k, out));
-    size_t count = search(row, n, table, pattern, m, &k, beside);
+    if (places >= n) return counted(search(row, n, table, classes, pattern, m, &k, out));
+    size_t count = search(row, n, table, classes, pattern, m, &k, beside);
     if (count > places) return refused(19, count);
     if (count > 0) memcpy(out, beside, count * sizeof *out);
     return counted(count);
 }
 
 /* Does the pattern match at j? spans holds begin and end of each variable. */
-static bool match_at(const uint16_t *row, const uint16_t *table, const uint16_t *pattern, size_t m, size_t j, uint16_t *spans) {
+static bool match_at(const uint16_t *row, const uint16_t *table, const uint16_t *classes, const uint16_t *pattern, size_t m,
+                     size_t j, uint16_t *spans) {
     for (size_t i = 0; i < m; i++) {
         uint16_t s = pattern[i];
         if (s < FIRST_VARIABLE) {
@@ -371,7 +569,7 @@ static bool match_at(const uint16_t *row, const uint16_t *table, const uint16_t 
             if (span[1] == 0) {
                 span[0] = (uint16_t)j;
                 span[1] = table[j];
-            } else if (!same_subtree(row, table, span[0], j)) return false;
+            } else if (classes[span[0]] != classes[j]) return false;
         }
         j = table[j];
     }
@@ -379,16 +577,17 @@ static bool match_at(const uint16_t *row, const uint16_t *table, const uint16_t 
 }
 
 answer strong_variables(const uint16_t *arities, size_t symbols, const uint16_t *row, size_t n, const uint16_t *table, size_t room,
-                        const uint16_t *pattern, size_t m, size_t position, uint16_t *out, size_t places) {
+                        const uint16_t *classes, size_t class_room, const uint16_t *pattern, size_t m, size_t position,
+                        uint16_t *out, size_t places) {
     known k = {0};
     uint16_t spans[2 * VARIABLES] = {0};
-    answer a = check_given(arities, symbols, row, n, table, room);
+    answer a = check_given(arities, symbols, row, n, table, classes, shorter(room, class_room));
     if (UNLIKELY(a.refusal)) return a;
     a = check_pattern(arities, symbols, pattern, m, &k);
     if (UNLIKELY(a.refusal)) return a;
     if (UNLIKELY(position >= n)) return refused(17, position);
     if (UNLIKELY(places < 2 * VARIABLES)) return refused(19, 2 * VARIABLES);
-    if (!match_at(row, table, pattern, m, position, spans)) return counted(0);
+    if (!match_at(row, table, classes, pattern, m, position, spans)) return counted(0);
     memcpy(out, spans, sizeof spans);
     return counted(1);
 }
@@ -421,10 +620,10 @@ INLINE void make_room(uint16_t *row, uint16_t *table, size_t n, size_t position,
 }
 
 answer strong_replace(const uint16_t *arities, size_t symbols, uint16_t *row, size_t row_room, uint16_t *table, size_t room,
-                      size_t n, const uint16_t *replacement, size_t m, size_t position) {
+                      uint16_t *classes, size_t class_room, size_t n, const uint16_t *replacement, size_t m, size_t position) {
     uint16_t ends[MOST];
-    size_t least = row_room < room ? row_room : room;
-    answer a = check_given(arities, symbols, row, n, table, least);
+    size_t least = shorter(row_room, shorter(room, class_room));
+    answer a = check_given(arities, symbols, row, n, table, classes, least);
     if (UNLIKELY(a.refusal)) return a;
     if (UNLIKELY(m - 1 >= MOST)) return size_fault(m, REPLACEMENT);
     if (UNLIKELY(!ends_of(arities, symbols, replacement, m, ends, position)))
@@ -435,9 +634,11 @@ answer strong_replace(const uint16_t *arities, size_t symbols, uint16_t *row, si
     if (end != to) make_room(row, table, n, position, end, to);
     memcpy(row + position, replacement, m * sizeof *row);
     memcpy(table + position, ends, m * sizeof *table);
+    fill_classes(row, length, table, classes);
     if (length < n) {
         memset(row + length, 0xff, (n - length) * sizeof *row);
         memset(table + length, 0, (n - length) * sizeof *table);
+        memset(classes + length, 0, (n - length) * sizeof *classes);
     }
     return (answer){0, (int32_t)length - (int32_t)n, 0, length};
 }

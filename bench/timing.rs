@@ -95,7 +95,7 @@ pub struct Bench {
 
 impl Bench {
     /// Times a call by each of the four, and the yardstick, at each length. A call is told who is called, which length, and how many
-    /// calls there were.
+    /// calls there were. The yardstick, which is the library's code too, has its turn between other columns.
     pub fn add(
         &mut self,
         names: [&str; 2],
@@ -104,7 +104,7 @@ impl Bench {
         mut yardstick: impl FnMut(usize, usize) -> Answer,
     ) {
         let call = |column, l, k| if column == YARDSTICK { yardstick(l, k) } else { f(black_box(ALL[column]), l, k) };
-        self.measure(names, rows, &[0, 1, 2, 3, YARDSTICK], call);
+        self.measure(names, rows, &[0, 1, YARDSTICK, 2, 3], call);
     }
 
     /// Times an exported function, in the library's column. The yardstick is the inner call.
@@ -114,8 +114,9 @@ impl Bench {
     }
 
     /// All columns are timed in every round, one after the other, and each share is the median of the shares in the rounds: what
-    /// slows the machine down for a while slows all. Whoever meets rows first brings them near for the others, so they are met
-    /// once before, and the columns take turns in going first.
+    /// slows the machine down for a while slows all. Whoever meets rows first brings them near for the others, so the columns take
+    /// turns in going first. A processor that has just met a row by the same code knows its branches by heart: so no column meets
+    /// the rows of a round before it is timed on them, and what they answer is compared behind that.
     fn measure(&mut self, names: [&str; 2], rows: &Rows, columns: &[usize], mut call: impl FnMut(usize, usize, usize) -> Answer) {
         let lengths = 0..rows.lengths.len();
         let mut once = |l| (0..3).map(|k| timed(0..2, |_| call(0, l, k))).fold(f64::INFINITY, f64::min);
@@ -125,12 +126,13 @@ impl Bench {
             for l in lengths.clone() {
                 let batch = (self.batch / once[l].max(50.0)).clamp(1.0, 4_000.0) as usize;
                 let calls = round * batch..(round + 1) * batch;
-                let said = call(0, l, calls.start);
-                timed(calls.clone(), |k| call(0, l, k));
                 for &column in columns.iter().cycle().skip(round % columns.len()).take(columns.len()) {
-                    let says = call(column, l, calls.start);
-                    assert!(column == YARDSTICK || says == said, "{names:?}: {says:?} and not {said:?}");
                     times[l][column][round] = timed(calls.clone(), |k| call(column, l, k));
+                }
+                let said = call(0, l, calls.start);
+                for &column in columns.iter().filter(|&&column| column != YARDSTICK) {
+                    let says = call(column, l, calls.start);
+                    assert!(says == said, "{names:?}: {says:?} and not {said:?}");
                 }
             }
         }

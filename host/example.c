@@ -1,5 +1,5 @@
-/* An evening's programme: its table is built, a pattern is looked for, a clip gives way to a block, and the pattern is
-   looked for again. Symbols: 0 and 1 are clips, 2 a part with one child, 3 a block of two, 4 a block of three.
+/* An evening's programme: its table and classes are built, a pattern is looked for, a clip gives way to a block, and the pattern
+   is looked for again. Symbols: 0 and 1 are clips, 2 a part with one child, 3 a block of two, 4 a block of three.
    The machine is little-endian, so that arrays of 16-bit numbers are lent as they stand. */
 #include <stddef.h>
 #include <stdint.h>
@@ -7,6 +7,12 @@
 #include <sparrowhem.h>
 
 enum { ROOM = 16 }; /* places in each buffer */
+
+/* A row in its buffer, and what is kept beside it, which a host lends and never has to read. */
+typedef struct {
+    uint64_t length;
+    uint16_t row[ROOM], table[ROOM], classes[ROOM];
+} programme;
 
 static void show(const char *what, const uint16_t *numbers, uint64_t count) {
     printf("%s", what);
@@ -24,12 +30,19 @@ static int refused(const char *call, sparrowhem_answer a) {
     return a.refusal != SPARROWHEM_ANSWERED;
 }
 
-/* Looks for a pattern in the first `length` symbols of the row, and shows where it stands. */
-static int look(const uint16_t *alphabet, size_t symbols, const uint16_t *row, uint64_t length, const uint16_t *table) {
+static void show_programme(const programme *p) {
+    show("row:    ", p->row, p->length);
+    show("table:  ", p->table, p->length);
+    show("classes:", p->classes, p->length);
+}
+
+/* Looks for a pattern in the programme, and shows where it stands. */
+static int look(const uint16_t *alphabet, size_t symbols, const programme *p) {
     static const uint16_t twins[] = {3, SPARROWHEM_VARIABLE(0), SPARROWHEM_VARIABLE(0)};
     uint16_t out[ROOM];
-    sparrowhem_answer a = sparrowhem_find((const uint8_t *)alphabet, 2 * symbols, (const uint8_t *)row, (size_t)(2 * length),
-        (const uint8_t *)table, 2 * ROOM, (const uint8_t *)twins, sizeof twins, (uint8_t *)out, sizeof out);
+    sparrowhem_answer a = sparrowhem_find((const uint8_t *)alphabet, 2 * symbols, (const uint8_t *)p->row, (size_t)(2 * p->length),
+        (const uint8_t *)p->table, sizeof p->table, (const uint8_t *)p->classes, sizeof p->classes,
+        (const uint8_t *)twins, sizeof twins, (uint8_t *)out, sizeof out);
     if (refused("find", a)) return 1;
     show("blocks of two equal parts, at:", out, a.count);
     return 0;
@@ -38,22 +51,20 @@ static int look(const uint16_t *alphabet, size_t symbols, const uint16_t *row, u
 int main(void) {
     static const uint16_t alphabet[] = {0, 0, 1, 2, 3};
     static const uint16_t block[] = {3, 0, 1};
-    uint16_t row[ROOM] = {4, 3, 0, 0, 2, 1, 3, 0, 0}, table[ROOM];
-    uint64_t length = 9;
+    programme p = {9, {4, 3, 0, 0, 2, 1, 3, 0, 0}, {0}, {0}};
 
-    sparrowhem_answer a = sparrowhem_build((const uint8_t *)alphabet, sizeof alphabet, (const uint8_t *)row, (size_t)(2 * length),
-        (uint8_t *)table, sizeof table);
+    sparrowhem_answer a = sparrowhem_build((const uint8_t *)alphabet, sizeof alphabet, (const uint8_t *)p.row, (size_t)(2 * p.length),
+        (uint8_t *)p.table, sizeof p.table, (uint8_t *)p.classes, sizeof p.classes);
     if (refused("build", a)) return 1;
-    show("row:    ", row, length);
-    show("table:  ", table, length);
-    if (look(alphabet, 5, row, length, table)) return 1;
+    show_programme(&p);
+    if (look(alphabet, 5, &p)) return 1;
 
-    a = sparrowhem_replace((const uint8_t *)alphabet, sizeof alphabet, (uint8_t *)row, sizeof row, (uint8_t *)table, sizeof table,
-        length, (const uint8_t *)block, sizeof block, 4);
+    a = sparrowhem_replace((const uint8_t *)alphabet, sizeof alphabet, (uint8_t *)p.row, sizeof p.row,
+        (uint8_t *)p.table, sizeof p.table, (uint8_t *)p.classes, sizeof p.classes,
+        p.length, (const uint8_t *)block, sizeof block, 4);
     if (refused("replace", a)) return 1;
-    length = a.count;
+    p.length = a.count;
     printf("the part at 4 gives way to a block; the row is longer by %d\n", (int)a.change);
-    show("row:    ", row, length);
-    show("table:  ", table, length);
-    return look(alphabet, 5, row, length, table);
+    show_programme(&p);
+    return look(alphabet, 5, &p);
 }

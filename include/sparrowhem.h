@@ -2,19 +2,28 @@
 ** sparrowhem.h: build, find and replace in programme trees that are kept as
 ** rows of symbols.
 **
-** ALPHABET, ROW, TABLE
+** ALPHABET, ROW, TABLE, CLASSES
 **
 ** A programme is an ordered tree.  Symbol k of an alphabet has the arity at
 ** place k of the alphabet: each node that bears it has that many children.
 ** A tree is kept as a ROW: the root's symbol, then the rows of its children
-** from left to right.  Beside a row stands its TABLE: entry p is the
-** position just after the last symbol of the subtree that begins at
-** position p.  Positions count from 0.
+** from left to right.  Positions count from 0.  Two lists stand beside a row:
+** its TABLE, in which entry p is the position just after the last symbol of
+** the subtree that begins at position p, and its CLASSES, in which class p is
+** the first position whose subtree is equal to the one at p: the same symbols
+** in the same order.  So two positions have one class exactly if their
+** subtrees are equal.
 **
 **     alphabet   0 0 1 2 3     symbols 0 and 1 are leaves, 2 has one child,
 **                              3 has two, 4 has three
 **     row        4 3 0 0 2 1 3 0 0
 **     table      9 4 3 4 6 6 9 8 9
+**     classes    0 1 2 2 4 5 1 2 2
+**
+** The caller has nothing to work out for either list: it lends a buffer with
+** room for as many numbers as the row has, build fills it, replace keeps it,
+** and in between it is stored as it is and handed back.  A list that is no
+** longer the row's is told from one that is, and refused.
 **
 ** PATTERN
 **
@@ -25,12 +34,12 @@
 **
 ** NUMBERS ARE LENT AS BYTES
 **
-** Every list of numbers (alphabet, row, table, pattern, replacement, output)
-** is lent as a pointer and a count of BYTES.  Each number takes two bytes,
-** the low one first, on every machine.  An odd last byte is neither counted
-** nor written: 17 bytes are 8 numbers.  The bytes may begin at any address,
-** odd ones too.  A null pointer with count 0 is an empty list.  Lengths,
-** positions and places count NUMBERS, not bytes.
+** Every list of numbers (alphabet, row, table, classes, pattern, replacement,
+** output) is lent as a pointer and a count of BYTES.  Each number takes two
+** bytes, the low one first, on every machine.  An odd last byte is neither
+** counted nor written: 17 bytes are 8 numbers.  The bytes may begin at any
+** address, odd ones too.  A null pointer with count 0 is an empty list.
+** Lengths, positions and places count NUMBERS, not bytes.
 **
 ** On a little-endian machine an array of uint16_t is such a list as it
 ** stands: `(const uint8_t *)row, 2 * n` lends its first n numbers, and
@@ -59,10 +68,18 @@
 **
 ** STACK
 **
-** sparrowhem_build needs under 36 KiB.  sparrowhem_find and sparrowhem_replace
-** work on copies on the stack.  Both need under 12 KiB where the row, and what
-** replaces a part of it, have at most 256 symbols each; for the longest row
-** find needs under 110 KiB, and replace under 145 KiB.
+** All three work on copies on the stack.  sparrowhem_build needs under 104
+** KiB.  sparrowhem_find and sparrowhem_replace need under 16 KiB where the row,
+** and what replaces a part of it, have at most 256 symbols each; for the
+** longest row find needs under 240 KiB, and replace under 272 KiB.
+**
+** SINCE VERSION 1
+**
+** Build, find and replace take the classes, straight after the table; a call
+** without them no longer compiles.  A host lends a second buffer of the size
+** of the table beside each table that it keeps, and has build fill both anew
+** where it has stored rows and tables alone.  Refusal 62 is new; 6 and 18
+** count the classes too.
 */
 #ifndef SPARROWHEM_H
 #define SPARROWHEM_H
@@ -78,8 +95,8 @@ extern "C" {
 ** The version: as a string, and as a number that grows with it, a million for
 ** the first part, a thousand for the second, one for the third.
 */
-#define SPARROWHEM_VERSION        "1.1.0"
-#define SPARROWHEM_VERSION_NUMBER 1001000
+#define SPARROWHEM_VERSION        "2.0.0"
+#define SPARROWHEM_VERSION_NUMBER 2000000
 
 /*
 ** Limits: symbols in an alphabet, an arity, numbers in a row or in a
@@ -101,13 +118,14 @@ extern "C" {
 */
 #define SPARROWHEM_FREED_ROW   65535u
 #define SPARROWHEM_FREED_TABLE 0u
+#define SPARROWHEM_FREED_CLASS 0u
 
 /*
 ** Why a call refuses, each with the place that it gives.
 **
-** Where several apply, the first in this order is given: 1 to 10; then 11 to
-** 15, or 24, 25, 27, 28, 29; then 17, 18, 19.  A row, a pattern or a
-** replacement is read from left to right, up to its first fault; a number
+** Where several apply, the first in this order is given: 1 to 10; then 62;
+** then 11 to 15, or 24, 25, 27, 28, 29; then 17, 18, 19.  A row, a pattern or
+** a replacement is read from left to right, up to its first fault; a number
 ** that stands behind the tree's end is 9, 15 or 29, whatever it is.
 */
 enum {
@@ -124,8 +142,8 @@ enum {
   SPARROWHEM_ROW_EMPTY         = 4,
   /* the row's length is over 16384: the length */
   SPARROWHEM_ROW_LONG          = 5,
-  /* the table, or in replace the row's buffer, is shorter than the row: the
-  ** row's length */
+  /* the table, the classes, or in replace the row's buffer, is shorter than
+  ** the row: the row's length */
   SPARROWHEM_BUFFER_SHORT      = 6,
   /* a number in the row is no symbol: its position */
   SPARROWHEM_ROW_STRAY         = 7,
@@ -145,8 +163,8 @@ enum {
 
   /* the position is not below the row's length: the position */
   SPARROWHEM_POSITION          = 17,
-  /* the new row would be over 16384 long, or longer than its buffer or the
-  ** table: its length */
+  /* the new row would be over 16384 long, or longer than its buffer, the table
+  ** or the classes: its length */
   SPARROWHEM_TOO_LONG          = 18,
   /* there are more matches than places in the output: the number of matches */
   SPARROWHEM_OUTPUT_SHORT      = 19,
@@ -156,7 +174,10 @@ enum {
   SPARROWHEM_REPLACEMENT_LONG  = 25,
   SPARROWHEM_REPLACEMENT_STRAY = 27,
   SPARROWHEM_REPLACEMENT_EARLY = 28,
-  SPARROWHEM_REPLACEMENT_EXTRA = 29
+  SPARROWHEM_REPLACEMENT_EXTRA = 29,
+
+  /* a class is not the row's: the first such position */
+  SPARROWHEM_STALE_CLASS       = 62
 };
 
 /*
@@ -178,8 +199,8 @@ static inline const char *sparrowhem_refusal_text(uint32_t refusal){
     case SPARROWHEM_ROW_LONG:
       return "the row length is above 16,384";
     case SPARROWHEM_BUFFER_SHORT:
-      return "the table, or for replace the buffer that holds the row, has "
-             "fewer places than the row length";
+      return "the table, the classes, or for replace the buffer that holds "
+             "the row, has fewer places than the row length";
     case SPARROWHEM_ROW_STRAY:
       return "the row holds a number that is no symbol";
     case SPARROWHEM_ROW_EARLY:
@@ -203,7 +224,7 @@ static inline const char *sparrowhem_refusal_text(uint32_t refusal){
       return "the position is the row length or more";
     case SPARROWHEM_TOO_LONG:
       return "the row would after the replacement be longer than 16,384, "
-             "than its buffer or than the table";
+             "than its buffer, than the table or than the classes";
     case SPARROWHEM_OUTPUT_SHORT:
       return "the output has too few places";
     case SPARROWHEM_REPLACEMENT_EMPTY:
@@ -216,6 +237,8 @@ static inline const char *sparrowhem_refusal_text(uint32_t refusal){
       return "the replacement is at its end and its tree is not";
     case SPARROWHEM_REPLACEMENT_EXTRA:
       return "the tree is at its end and the replacement is not";
+    case SPARROWHEM_STALE_CLASS:
+      return "the classes are stale: one is not the row's";
     default:
       return "no call gives this number";
   }
@@ -252,17 +275,19 @@ typedef struct {
 } sparrowhem_answer;
 
 /*
-** Build: writes the table of the row to the front of `table`.
+** Build: writes the table of the row to the front of `table`, and its classes
+** to the front of `classes`.
 **
-** `count` is the row's length.  Numbers of the table behind it stay.  What
-** the table held before is not looked at.
+** `count` is the row's length.  Numbers of both lists behind it stay.  What
+** they held before is not looked at.
 **
 ** Refuses with 1 to 9.
 */
 sparrowhem_answer sparrowhem_build(
   const uint8_t *arities, size_t arities_bytes,
   const uint8_t *row,     size_t row_bytes,
-  uint8_t *table,         size_t table_bytes
+  uint8_t *table,         size_t table_bytes,
+  uint8_t *classes,       size_t classes_bytes
 );
 
 /*
@@ -270,38 +295,41 @@ sparrowhem_answer sparrowhem_build(
 ** front of `out`.
 **
 ** `count` is their number.  Numbers of the output behind them stay.  Matches
-** may overlap and nest; all are listed.  Entries of the table behind the
-** row's length are not looked at.
+** may overlap and nest; all are listed.  Numbers of table and classes behind
+** the row's length are not looked at.
 **
-** Refuses with 1 to 15 and 19.  Where nothing matches, an output without
-** places is enough.
+** Refuses with 1 to 10, 62, 11 to 15 and 19.  Where nothing matches, an
+** output without places is enough.
 */
 sparrowhem_answer sparrowhem_find(
   const uint8_t *arities, size_t arities_bytes,
   const uint8_t *row,     size_t row_bytes,
   const uint8_t *table,   size_t table_bytes,
+  const uint8_t *classes, size_t classes_bytes,
   const uint8_t *pattern, size_t pattern_bytes,
   uint8_t *out,           size_t out_bytes
 );
 
 /*
 ** Replace: in the row of the first `row_length` numbers of the buffer `row`,
-** whose table stands at the front of `table`, the subtree at `position`
-** gives way to the row `replacement`.  Both are changed in place.
+** whose table and classes stand at the front of `table` and `classes`, the
+** subtree at `position` gives way to the row `replacement`.  All three are
+** changed in place: table and classes are then those of the new row.
 **
 ** `count` is the row's new length, which is passed as `row_length` from then
 ** on, and `change` the new length minus the old one.  Where the row gets
 ** shorter, the places from the new length up to the old one hold
-** SPARROWHEM_FREED_ROW in the row and SPARROWHEM_FREED_TABLE in the table.
-** Numbers behind these stay.
+** SPARROWHEM_FREED_ROW in the row, SPARROWHEM_FREED_TABLE in the table and
+** SPARROWHEM_FREED_CLASS in the classes.  Numbers behind these stay.
 **
-** Refuses with 1 to 10, 17, 18, 24, 25, 27, 28 and 29.  Putting the old
+** Refuses with 1 to 10, 62, 24, 25, 27, 28, 29, 17 and 18.  Putting the old
 ** subtree straight back is never refused.
 */
 sparrowhem_answer sparrowhem_replace(
   const uint8_t *arities,     size_t arities_bytes,
   uint8_t *row,               size_t row_bytes,
   uint8_t *table,             size_t table_bytes,
+  uint8_t *classes,           size_t classes_bytes,
   uint64_t row_length,
   const uint8_t *replacement, size_t replacement_bytes,
   uint64_t position
@@ -315,14 +343,14 @@ sparrowhem_answer sparrowhem_replace(
 **     const uint8_t arities[] = {0, 0, 0, 0, 1, 0, 2, 0};
 **     const uint8_t row[] = {3, 0, 0, 0, 0, 0};
 **     const uint8_t pattern[] = {0, 0};
-**     uint8_t table[6], out[6];
+**     uint8_t table[6], classes[6], out[6];
 **     sparrowhem_answer a;
 **     a = sparrowhem_build(arities, sizeof arities, row, sizeof row,
-**                          table, sizeof table);
+**                          table, sizeof table, classes, sizeof classes);
 **     if( a.refusal == SPARROWHEM_ANSWERED ){
 **       a = sparrowhem_find(arities, sizeof arities, row, sizeof row,
-**                           table, sizeof table, pattern, sizeof pattern,
-**                           out, sizeof out);
+**                           table, sizeof table, classes, sizeof classes,
+**                           pattern, sizeof pattern, out, sizeof out);
 **     }
 **     if( a.refusal != SPARROWHEM_ANSWERED ){
 **       printf("refused: %s (%llu)\n", sparrowhem_refusal_text(a.refusal),

@@ -47,7 +47,12 @@ drive() {
     $out/drive --seed "${SEED:-20260101}" "$@" $(kit_words) "$server"
 }
 
-noticed() { ! drive "$@" >$out/noticed && grep -q '^FAILED: seed' $out/noticed; }
+# noticed SERVER [FLAG..]: the model and that server differ on some input.
+noticed() {
+    drive "$@" >$out/noticed
+    grep -Eq '^FAILED: seed [0-9]+, input' $out/noticed
+}
+unnoticed() { ! noticed "$@"; }
 header_as() { echo '#include <sparrowhem.h>' | "$@" -Wall -Wextra -Werror -Iinclude -fsyntax-only -; }
 texts_of_scope() {
     kit_run $out/texts | diff <(sed -nE '/^## Refusals/,/^### /{ /`seek`/d; s/^\| ([0-9]+) \| ([^|]+) \|.*/\1 \2/p }' docs/SCOPE.md) -
@@ -87,6 +92,7 @@ fi
 try "the server, compiled by the kit" kit_cc $out/serve tests/host/serve.c
 try "the model and its inputs, compiled by rustc" rustc --edition 2021 -O -D warnings -o $out/drive tests/host/drive.rs
 counted "random inputs" drive $out/serve --inputs "${INPUTS:-100000}"
+try "a right server is not found wrong" unnoticed $out/serve --inputs 400
 for byte in 0 4 8 16 24 28 1000000; do
     try "a server with a wrong bit at $byte" kit_cc $out/wrong tests/host/serve.c -DWRONG=$byte
     try "is noticed" noticed $out/wrong --inputs 400

@@ -85,19 +85,19 @@ static void check_that(const char *name, int holds) {
     }
 }
 
-static sparrowhem_answer build(lent a, lent w, lent t) {
-    return sparrowhem_build(a.at, a.bytes, w.at, w.bytes, t.at, t.bytes);
+static sparrowhem_answer build(lent a, lent w, lent t, lent c) {
+    return sparrowhem_build(a.at, a.bytes, w.at, w.bytes, t.at, t.bytes, c.at, c.bytes);
 }
 
-static sparrowhem_answer find(lent a, lent w, lent t, lent q, lent o) {
-    return sparrowhem_find(a.at, a.bytes, w.at, w.bytes, t.at, t.bytes, q.at, q.bytes, o.at, o.bytes);
+static sparrowhem_answer find(lent a, lent w, lent t, lent c, lent q, lent o) {
+    return sparrowhem_find(a.at, a.bytes, w.at, w.bytes, t.at, t.bytes, c.at, c.bytes, q.at, q.bytes, o.at, o.bytes);
 }
 
-static sparrowhem_answer replace(lent a, lent w, lent t, uint64_t n, lent v, uint64_t p) {
-    return sparrowhem_replace(a.at, a.bytes, w.at, w.bytes, t.at, t.bytes, n, v.at, v.bytes, p);
+static sparrowhem_answer replace(lent a, lent w, lent t, lent c, uint64_t n, lent v, uint64_t p) {
+    return sparrowhem_replace(a.at, a.bytes, w.at, w.bytes, t.at, t.bytes, c.at, c.bytes, n, v.at, v.bytes, p);
 }
 
-/* The worked alphabet, row and table. */
+/* The worked alphabet, row, table and classes. */
 #define COUNT(list) (sizeof(list) / sizeof(list)[0])
 #define X0 SPARROWHEM_VARIABLE(0u)
 #define X1 SPARROWHEM_VARIABLE(1u)
@@ -105,14 +105,16 @@ static sparrowhem_answer replace(lent a, lent w, lent t, uint64_t n, lent v, uin
 static const unsigned A[] = {0, 0, 1, 2, 3};
 static const unsigned T[] = {4, 3, 0, 0, 2, 1, 3, 0, 0};
 static const unsigned ENDS[] = {9, 4, 3, 4, 6, 6, 9, 8, 9};
+static const unsigned CLASSES[] = {0, 1, 2, 2, 4, 5, 1, 2, 2};
 
-/* A long row: a chain of 2s over a leaf; and its table. */
-static unsigned chain[BIG + 1], chain_ends[BIG + 1], thousand[1025], wide[257], zeros[BIG + 1];
+/* A long row: a chain of 2s over a leaf; its table; and its classes, which are each position's own. */
+static unsigned chain[BIG + 1], chain_ends[BIG + 1], own[BIG + 1], thousand[1025], wide[257], zeros[BIG + 1];
 
 static void fill_lists(void) {
     for (size_t i = 0; i <= BIG; i++) {
         chain[i] = 2;
         chain_ends[i] = BIG;
+        own[i] = (unsigned)i;
     }
     chain[BIG - 1] = 0;
     for (size_t i = 0; i < 257; i++) {
@@ -122,9 +124,9 @@ static void fill_lists(void) {
 
 static void build_case(const char *name, const unsigned *row, size_t n, unsigned refusal, uint64_t place) {
     start();
-    lent a = lend(A, COUNT(A)), w = lend(row, n), t = lend_bytes(0, 0, 2 * n + 6);
+    lent a = lend(A, COUNT(A)), w = lend(row, n), t = lend_bytes(0, 0, 2 * n + 6), c = lend_bytes(0, 0, 2 * n + 4);
     ready();
-    check_refused(name, build(a, w, t), refusal, place);
+    check_refused(name, build(a, w, t, c), refusal, place);
 }
 
 static void builds(void) {
@@ -138,192 +140,318 @@ static void builds(void) {
     build_case("build 4", r1, 0, SPARROWHEM_ROW_EMPTY, 0);
     build_case("build 5", chain, BIG + 1, SPARROWHEM_ROW_LONG, BIG + 1);
 
-    for (size_t more = 0; more < 6; more++) { /* a table with just room, and with more, odd bytes too */
+    for (size_t more = 0; more < 36; more++) { /* lists with just room, and with more, odd bytes too */
         start();
-        lent a = lend_bytes(A, 5, 10 + (more & 1)), w = lend_bytes(T, 9, 18 + (more & 1)), t = lend_bytes(0, 0, 18 + more);
+        lent a = lend_bytes(A, 5, 10 + (more & 1)), w = lend_bytes(T, 9, 18 + (more & 1));
+        lent t = lend_bytes(0, 0, 18 + more % 6), c = lend_bytes(0, 0, 18 + more / 6);
         ready();
         expect(t, 0, ENDS, 9);
-        check("build", build(a, w, t), 0, 0, 0, 9);
+        expect(c, 0, CLASSES, 9);
+        check("build", build(a, w, t, c), 0, 0, 0, 9);
+        check("build, over what stands there", build(a, w, t, c), 0, 0, 0, 9);
     }
     start();
-    lent a = lend(A, 5), w = lend(T, 9), t = lend_bytes(0, 0, 17);
+    lent a = lend(A, 5), w = lend(T, 9), t = lend_bytes(0, 0, 18), c = lend_bytes(0, 0, 18), short_t = {t.at, 17}, short_c = {c.at, 17};
     ready();
-    check_refused("build 6, an odd byte", build(a, w, t), SPARROWHEM_BUFFER_SHORT, 9);
-    check_refused("build 6, no table", build(a, w, none), SPARROWHEM_BUFFER_SHORT, 9);
-    check_refused("build 4, no row", build(a, none, t), SPARROWHEM_ROW_EMPTY, 0);
-    check_refused("build 1, nothing at all", build(none, none, none), SPARROWHEM_ALPHABET_SIZE, 0);
+    check_refused("build 6, an odd byte of the table", build(a, w, short_t, c), SPARROWHEM_BUFFER_SHORT, 9);
+    check_refused("build 6, an odd byte of the classes", build(a, w, t, short_c), SPARROWHEM_BUFFER_SHORT, 9);
+    check_refused("build 6, no table", build(a, w, none, c), SPARROWHEM_BUFFER_SHORT, 9);
+    check_refused("build 6, no classes", build(a, w, t, none), SPARROWHEM_BUFFER_SHORT, 9);
+    check_refused("build 4, no row", build(a, none, t, c), SPARROWHEM_ROW_EMPTY, 0);
+    check_refused("build 1, nothing at all", build(none, none, none, none), SPARROWHEM_ALPHABET_SIZE, 0);
+    w.at[0] = 9;
+    ready();
+    check_refused("build 6 before 7", build(a, w, t, short_c), SPARROWHEM_BUFFER_SHORT, 9);
 
     start();
     lent bad = lend(over, 3), leafless = lend(no_leaf, 1), long_row = lend(chain, BIG + 1), many = lend(thousand, 1025);
-    t = lend_bytes(0, 0, 2 * BIG + 2);
+    t = lend_bytes(0, 0, 2 * BIG + 2), c = lend_bytes(0, 0, 2 * BIG + 2);
     ready();
-    check_refused("build 2 before 5", build(bad, long_row, t), SPARROWHEM_ARITY_OVER, 1);
-    check_refused("build 3 before 4", build(leafless, none, t), SPARROWHEM_NO_LEAF, 0);
-    check_refused("build 1 before 5", build(many, long_row, t), SPARROWHEM_ALPHABET_SIZE, 1025);
+    check_refused("build 2 before 5", build(bad, long_row, t, c), SPARROWHEM_ARITY_OVER, 1);
+    check_refused("build 3 before 4", build(leafless, none, t, c), SPARROWHEM_NO_LEAF, 0);
+    check_refused("build 1 before 5", build(many, long_row, t, c), SPARROWHEM_ALPHABET_SIZE, 1025);
     many.bytes = 2 * 1024 + 1;
     lent leaf = {many.at, 2};
     static const unsigned one[] = {1};
     expect(t, 0, one, 1);
-    check("build with 1,024 symbols", build(many, leaf, t), 0, 0, 0, 1);
+    expect(c, 0, zeros, 1);
+    check("build with 1,024 symbols", build(many, leaf, t, c), 0, 0, 0, 1);
 
     start();
-    lent longest = lend(chain, BIG), room = lend_bytes(0, 0, 2 * BIG), deep = lend(A, 5);
+    lent longest = lend(chain, BIG), deep = lend(A, 5);
+    t = lend_bytes(0, 0, 2 * BIG), c = lend_bytes(0, 0, 2 * BIG);
     ready();
-    expect(room, 0, chain_ends, BIG);
-    check("build of 16,384", build(deep, longest, room), 0, 0, 0, BIG);
+    expect(t, 0, chain_ends, BIG);
+    expect(c, 0, own, BIG);
+    check("build of 16,384", build(deep, longest, t, c), 0, 0, 0, BIG);
     start();
-    unsigned fifteen[2] = {15, 0}, fan[16] = {0}, fan_ends[16];
+    unsigned fifteen[2] = {15, 0}, fan[16] = {0}, fan_ends[16], fan_classes[16] = {0};
     for (unsigned i = 1; i < 16; i++) {
         fan[i] = 1;
         fan_ends[i] = i + 1;
+        fan_classes[i] = 1;
     }
     fan_ends[0] = 16;
-    a = lend(fifteen, 2), w = lend(fan, 16), t = lend_bytes(0, 0, 32);
+    a = lend(fifteen, 2), w = lend(fan, 16), t = lend_bytes(0, 0, 32), c = lend_bytes(0, 0, 32);
     ready();
     expect(t, 0, fan_ends, 16);
-    check("build with arity 15", build(a, w, t), 0, 0, 0, 16);
+    expect(c, 0, fan_classes, 16);
+    check("build with arity 15", build(a, w, t, c), 0, 0, 0, 16);
 }
 
-static void find_case(const char *name, const unsigned *row, const unsigned *table, size_t n, const unsigned *pattern, size_t m,
-    size_t out_bytes, const unsigned *positions, size_t count, unsigned refusal, uint64_t place) {
+/* A row with what is kept beside it. */
+typedef struct {
+    size_t n;
+    const unsigned *row, *table, *classes;
+} kept;
+
+static void find_case(const char *name, kept k, const unsigned *pattern, size_t m, size_t out_bytes, const unsigned *positions,
+    size_t count, unsigned refusal, uint64_t place) {
     start();
-    lent a = lend(A, 5), w = lend_bytes(row, n, 2 * n + 1), t = lend_bytes(table, n, 2 * n + 7), q = lend_bytes(pattern, m, 2 * m + 1);
-    lent o = lend_bytes(0, 0, out_bytes);
+    lent a = lend(A, 5), w = lend_bytes(k.row, k.n, 2 * k.n + 1), t = lend_bytes(k.table, k.n, 2 * k.n + 7);
+    lent c = lend_bytes(k.classes, k.n, 2 * k.n + 5), q = lend_bytes(pattern, m, 2 * m + 1), o = lend_bytes(0, 0, out_bytes);
     ready();
     expect(o, 0, positions, count);
-    check(name, find(a, w, t, q, o), refusal, 0, place, count);
+    check(name, find(a, w, t, c, q, o), refusal, 0, place, count);
 }
 
 static void finds(void) {
     static const unsigned twins[] = {3, X0, X0}, ends[] = {4, X0, S, X0}, same[] = {4, X0, X0, S}, any[] = {S}, all[] = {0, 1, 2, 3, 4, 5, 6, 7, 8};
-    static const unsigned at1[] = {1, 6}, at2[] = {0}, far[] = {4, 3, 0, 0, 0, 3, 0, 1}, far_ends[] = {8, 4, 3, 4, 5, 8, 7, 8};
+    static const unsigned at1[] = {1, 6}, at2[] = {0}, far_row[] = {4, 3, 0, 0, 0, 3, 0, 1}, far_ends[] = {8, 4, 3, 4, 5, 8, 7, 8};
+    static const unsigned far_classes[] = {0, 1, 2, 2, 2, 5, 2, 7}, stale_ends[] = {9, 4, 3, 4, 5, 6, 9, 8, 9};
     static const unsigned apart[] = {3, S, S}, odd[] = {5}, early[] = {3, X0}, extra[] = {X1, 0}, low[] = {65279}, high[] = {65296};
-    static const unsigned stale[] = {9, 4, 3, 4, 5, 6, 9, 8, 9};
-    find_case("find 3 X0 X0", T, ENDS, 9, twins, 3, 18, at1, 2, 0, 0);
-    find_case("find with just room", T, ENDS, 9, twins, 3, 5, at1, 2, 0, 0);
-    find_case("find 19", T, ENDS, 9, twins, 3, 3, 0, 0, SPARROWHEM_OUTPUT_SHORT, 2);
-    find_case("find 4 X0 S X0", T, ENDS, 9, ends, 4, 18, at2, 1, 0, 0);
-    find_case("find 4 X0 X0 S", T, ENDS, 9, same, 4, 0, 0, 0, 0, 0);
-    find_case("find S", T, ENDS, 9, any, 1, 19, all, 9, 0, 0);
-    find_case("find S, one place short", T, ENDS, 9, any, 1, 17, 0, 0, SPARROWHEM_OUTPUT_SHORT, 9);
-    find_case("find, equal in length and root only", far, far_ends, 8, ends, 4, 16, 0, 0, 0, 0);
-    find_case("find 3 S S", far, far_ends, 8, apart, 3, 16, (const unsigned[]){1, 5}, 2, 0, 0);
-    find_case("find 10", T, stale, 9, any, 1, 18, 0, 0, SPARROWHEM_STALE, 4);
-    find_case("find 10 before 11", T, stale, 9, any, 0, 18, 0, 0, SPARROWHEM_STALE, 4);
-    find_case("find 10 before 12", T, stale, 9, wide, 257, 18, 0, 0, SPARROWHEM_STALE, 4);
-    find_case("find 11", T, ENDS, 9, any, 0, 18, 0, 0, SPARROWHEM_PATTERN_EMPTY, 0);
-    find_case("find 12", T, ENDS, 9, wide, 257, 18, 0, 0, SPARROWHEM_PATTERN_LONG, 257);
-    find_case("find with a pattern of 256", T, ENDS, 9, wide, 256, 0, 0, 0, 0, 0);
-    find_case("find 13", T, ENDS, 9, odd, 1, 18, 0, 0, SPARROWHEM_PATTERN_STRAY, 0);
-    find_case("find 13 below the variables", T, ENDS, 9, low, 1, 18, 0, 0, SPARROWHEM_PATTERN_STRAY, 0);
-    find_case("find 13 above the variables", T, ENDS, 9, high, 1, 18, 0, 0, SPARROWHEM_PATTERN_STRAY, 0);
-    find_case("find 14", T, ENDS, 9, early, 2, 18, 0, 0, SPARROWHEM_PATTERN_EARLY, 2);
-    find_case("find 15", T, ENDS, 9, extra, 2, 18, 0, 0, SPARROWHEM_PATTERN_EXTRA, 1);
+    static const kept worked = {9, T, ENDS, CLASSES}, far = {8, far_row, far_ends, far_classes}, stale = {9, T, stale_ends, CLASSES};
+    find_case("find 3 X0 X0", worked, twins, 3, 18, at1, 2, 0, 0);
+    find_case("find with just room", worked, twins, 3, 5, at1, 2, 0, 0);
+    find_case("find 19", worked, twins, 3, 3, 0, 0, SPARROWHEM_OUTPUT_SHORT, 2);
+    find_case("find 4 X0 S X0", worked, ends, 4, 18, at2, 1, 0, 0);
+    find_case("find 4 X0 X0 S", worked, same, 4, 0, 0, 0, 0, 0);
+    find_case("find S", worked, any, 1, 19, all, 9, 0, 0);
+    find_case("find S, one place short", worked, any, 1, 17, 0, 0, SPARROWHEM_OUTPUT_SHORT, 9);
+    find_case("find, equal in length and root only", far, ends, 4, 16, 0, 0, 0, 0);
+    find_case("find 3 S S", far, apart, 3, 16, (const unsigned[]){1, 5}, 2, 0, 0);
+    find_case("find 10", stale, any, 1, 18, 0, 0, SPARROWHEM_STALE, 4);
+    find_case("find 10 before 11", stale, any, 0, 18, 0, 0, SPARROWHEM_STALE, 4);
+    find_case("find 10 before 12", stale, wide, 257, 18, 0, 0, SPARROWHEM_STALE, 4);
+    find_case("find 11", worked, any, 0, 18, 0, 0, SPARROWHEM_PATTERN_EMPTY, 0);
+    find_case("find 12", worked, wide, 257, 18, 0, 0, SPARROWHEM_PATTERN_LONG, 257);
+    find_case("find with a pattern of 256", worked, wide, 256, 0, 0, 0, 0, 0);
+    find_case("find 13", worked, odd, 1, 18, 0, 0, SPARROWHEM_PATTERN_STRAY, 0);
+    find_case("find 13 below the variables", worked, low, 1, 18, 0, 0, SPARROWHEM_PATTERN_STRAY, 0);
+    find_case("find 13 above the variables", worked, high, 1, 18, 0, 0, SPARROWHEM_PATTERN_STRAY, 0);
+    find_case("find 14", worked, early, 2, 18, 0, 0, SPARROWHEM_PATTERN_EARLY, 2);
+    find_case("find 15", worked, extra, 2, 18, 0, 0, SPARROWHEM_PATTERN_EXTRA, 1);
 
     for (size_t places = 0; places < 2; places++) { /* the longest row, in an output with more places than it can fill, and one short */
         start();
-        lent a = lend(A, 5), w = lend(chain, BIG), t = lend(chain_ends, BIG), q = lend(any, 1);
+        lent a = lend(A, 5), w = lend(chain, BIG), t = lend(chain_ends, BIG), c = lend(own, BIG), q = lend(any, 1);
         lent o = lend_bytes(0, 0, places ? 2 * BIG + 5 : 2 * BIG - 1);
         ready();
         for (unsigned i = 0; places && i < BIG; i++) {
             expect(o, i, &i, 1);
         }
-        check("find in 16,384", find(a, w, t, q, o), places ? 0 : SPARROWHEM_OUTPUT_SHORT, 0, places ? 0 : BIG, places ? BIG : 0);
+        check("find in 16,384", find(a, w, t, c, q, o), places ? 0 : SPARROWHEM_OUTPUT_SHORT, 0, places ? 0 : BIG, places ? BIG : 0);
     }
     start();
-    lent a = lend(A, 5), w = lend(T, 9), t = lend(ENDS, 9), q = lend(twins, 3), many = lend(thousand, 1025), over = lend(chain, BIG + 1);
+    lent a = lend(A, 5), w = lend(T, 9), t = lend(ENDS, 9), c = lend(CLASSES, 9), q = lend(twins, 3), many = lend(thousand, 1025);
+    lent over = lend(chain, BIG + 1), short_c = {c.at, 17};
     ready();
-    check_refused("find 19, no output", find(a, w, t, q, none), SPARROWHEM_OUTPUT_SHORT, 2);
-    check_refused("find 11, no pattern", find(a, w, t, none, none), SPARROWHEM_PATTERN_EMPTY, 0);
-    check_refused("find 6, no table", find(a, w, none, q, none), SPARROWHEM_BUFFER_SHORT, 9);
-    check_refused("find 4, no row", find(a, none, t, q, none), SPARROWHEM_ROW_EMPTY, 0);
-    check_refused("find 1, nothing at all", find(none, none, none, none, none), SPARROWHEM_ALPHABET_SIZE, 0);
-    check_refused("find 1", find(many, over, t, q, none), SPARROWHEM_ALPHABET_SIZE, 1025);
-    check_refused("find 5", find(a, over, t, q, none), SPARROWHEM_ROW_LONG, BIG + 1);
-    check_refused("find, row for pattern and pattern for row", find(a, q, t, w, none), SPARROWHEM_ROW_STRAY, 1);
+    check_refused("find 19, no output", find(a, w, t, c, q, none), SPARROWHEM_OUTPUT_SHORT, 2);
+    check_refused("find 11, no pattern", find(a, w, t, c, none, none), SPARROWHEM_PATTERN_EMPTY, 0);
+    check_refused("find 6, no table", find(a, w, none, c, q, none), SPARROWHEM_BUFFER_SHORT, 9);
+    check_refused("find 6, no classes", find(a, w, t, none, q, none), SPARROWHEM_BUFFER_SHORT, 9);
+    check_refused("find 6, an odd byte of the classes", find(a, w, t, short_c, q, none), SPARROWHEM_BUFFER_SHORT, 9);
+    check_refused("find 4, no row", find(a, none, t, c, q, none), SPARROWHEM_ROW_EMPTY, 0);
+    check_refused("find 1, nothing at all", find(none, none, none, none, none, none), SPARROWHEM_ALPHABET_SIZE, 0);
+    check_refused("find 1", find(many, over, t, c, q, none), SPARROWHEM_ALPHABET_SIZE, 1025);
+    check_refused("find 5", find(a, over, t, c, q, none), SPARROWHEM_ROW_LONG, BIG + 1);
+    check_refused("find, row for pattern and pattern for row", find(a, q, t, c, w, none), SPARROWHEM_ROW_STRAY, 1);
+    check_refused("find, classes for table and table for classes", find(a, w, c, t, q, none), SPARROWHEM_STALE, 0);
     static const unsigned root[] = {0};
     lent o = lend_bytes(0, 0, 4);
     ready();
     expect(o, 0, root, 1);
-    check("find, the same list as row and pattern", find(a, w, t, w, o), 0, 0, 0, 1);
+    check("find, the same list as row and pattern", find(a, w, t, c, w, o), 0, 0, 0, 1);
+}
+
+/* The worked programme with other classes: find and replace refuse with 62, at the first that is not the row's. */
+static void misclassed(const char *name, const unsigned *classes, uint64_t place) {
+    static const unsigned any[] = {S}, leaf[] = {1};
+    static const kept worked = {9, T, ENDS, 0};
+    kept k = worked;
+    k.classes = classes;
+    find_case(name, k, any, 1, 18, 0, 0, SPARROWHEM_STALE_CLASS, place);
+    start();
+    lent a = lend(A, 5), w = lend_bytes(T, 9, 21), t = lend_bytes(ENDS, 9, 20), c = lend_bytes(classes, 9, 19), v = lend(leaf, 1);
+    ready();
+    check_refused(name, replace(a, w, t, c, 9, v, 4), SPARROWHEM_STALE_CLASS, place);
+}
+
+static void wrong_classes(void) {
+    static const unsigned off[] = {0, 1, 2, 2, 4, 5, 0, 2, 2}, last[] = {0, 1, 2, 2, 4, 5, 1, 2, 3}, two[] = {0, 1, 2, 2, 3, 5, 1, 2, 7};
+    static const unsigned later[] = {0, 6, 2, 2, 4, 5, 6, 2, 2}, itself[] = {0, 1, 2, 2, 4, 5, 6, 2, 2}, copy[] = {0, 1, 2, 2, 4, 5, 6, 7, 7};
+    static const unsigned second[] = {0, 1, 3, 3, 4, 5, 1, 3, 3}, between[] = {0, 1, 2, 2, 4, 5, 1, 3, 2}, root[] = {1, 1, 2, 2, 4, 5, 1, 2, 2};
+    static const unsigned behind[] = {0, 1, 2, 2, 9, 5, 1, 2, 2}, marked[] = {0, 1, 2, 2, 4, 0x8005, 1, 2, 2}, most[] = {0, 1, 2, 65535, 4, 5, 1, 2, 2};
+    misclassed("a class of an ancestor", off, 6);
+    misclassed("the last class", last, 8);
+    misclassed("two wrong classes, the first counts", two, 4);
+    misclassed("the first of two equal ones names the later", later, 1);
+    misclassed("the later of two equal ones names itself", itself, 6);
+    misclassed("the later of two equal ones names itself, and so do those in it", copy, 6);
+    misclassed("all of a kind name the second", second, 2);
+    misclassed("one names an equal one that is not the first", between, 7);
+    misclassed("the root is not its own", root, 0);
+    misclassed("a class behind the row", behind, 4);
+    misclassed("a class with a high bit", marked, 5);
+    misclassed("a class of 65535", most, 3);
+    misclassed("all are 0", zeros, 1);
+    misclassed("each is its own", own, 3);
+
+    static const unsigned twins[] = {3, X0, X0}, at[] = {1, 6}, stray[] = {9}, odd_end[] = {9, 4, 3, 4, 6, 6, 9, 8, 8};
+    start(); /* what stands behind the row is not looked at, and a byte is enough to make a class wrong */
+    lent a = lend(A, 5), w = lend(T, 9), t = lend(ENDS, 9), c = lend_bytes(CLASSES, 9, 23), q = lend(twins, 3), o = lend_bytes(0, 0, 8);
+    memset(c.at + 18, 0xFF, 5);
+    ready();
+    expect(o, 0, at, 2);
+    check("classes behind the row", find(a, w, t, c, q, o), 0, 0, 0, 2);
+    c.at[17] ^= 1;
+    lent no_symbol = lend(stray, 1), wrong_end = lend(odd_end, 9), over = lend(zeros, BIG + 1), w2 = lend_bytes(T, 9, 20), t2 = lend_bytes(ENDS, 9, 20);
+    ready();
+    check_refused("find 62, a high byte", find(a, w, t, c, q, o), SPARROWHEM_STALE_CLASS, 8);
+    check_refused("find 62 before 11", find(a, w, t, c, none, o), SPARROWHEM_STALE_CLASS, 8);
+    check_refused("find 62 before 12", find(a, w, t, c, over, o), SPARROWHEM_STALE_CLASS, 8);
+    check_refused("find 62 before 13", find(a, w, t, c, no_symbol, o), SPARROWHEM_STALE_CLASS, 8);
+    check_refused("find 62 before 19", find(a, w, t, c, q, none), SPARROWHEM_STALE_CLASS, 8);
+    check_refused("find 10 before 62", find(a, w, wrong_end, c, q, o), SPARROWHEM_STALE, 8);
+    check_refused("replace 62 before 24", replace(a, w2, t2, c, 9, none, 0), SPARROWHEM_STALE_CLASS, 8);
+    check_refused("replace 62 before 25", replace(a, w2, t2, c, 9, over, 0), SPARROWHEM_STALE_CLASS, 8);
+    check_refused("replace 62 before 27", replace(a, w2, t2, c, 9, no_symbol, 0), SPARROWHEM_STALE_CLASS, 8);
+    check_refused("replace 62 before 17", replace(a, w2, t2, c, 9, q, 9), SPARROWHEM_STALE_CLASS, 8);
+    check_refused("replace 10 before 62", replace(a, w2, wrong_end, c, 9, q, 0), SPARROWHEM_STALE, 8);
+    c.at[0] ^= 1;
+    ready();
+    check_refused("all of 10 before any 62", find(a, w, wrong_end, c, q, o), SPARROWHEM_STALE, 8);
+    w.at[0] = 9;
+    ready();
+    check_refused("find 7 before 62", find(a, w, t, c, q, o), SPARROWHEM_ROW_STRAY, 0);
 }
 
 static void replaces(void) {
     static const unsigned longer[] = {3, 0, 1}, shorter[] = {1}, freed[] = {65535, 65535}, blank[] = {X0}, early[] = {2}, extra[] = {0, 0};
-    static const unsigned w1[] = {4, 3, 0, 0, 3, 0, 1, 3, 0, 0}, t1[] = {10, 4, 3, 4, 7, 6, 7, 10, 9, 10};
-    static const unsigned w2[] = {4, 1, 2, 1, 3, 0, 0}, t2[] = {7, 2, 4, 4, 7, 6, 7};
+    static const unsigned w1[] = {4, 3, 0, 0, 3, 0, 1, 3, 0, 0}, t1[] = {10, 4, 3, 4, 7, 6, 7, 10, 9, 10}, c1[] = {0, 1, 2, 2, 4, 2, 6, 1, 2, 2};
+    static const unsigned w2[] = {4, 1, 2, 1, 3, 0, 0}, t2[] = {7, 2, 4, 4, 7, 6, 7}, c2[] = {0, 1, 2, 1, 4, 5, 5};
     for (size_t more = 0; more < 5; more++) {
         start();
-        lent a = lend(A, 5), w = lend_bytes(T, 9, 20 + more), t = lend_bytes(ENDS, 9, 20 + more), v = lend_bytes(longer, 3, 6 + (more & 1));
+        lent a = lend(A, 5), w = lend_bytes(T, 9, 20 + more), t = lend_bytes(ENDS, 9, 20 + (more + 2) % 5), c = lend_bytes(CLASSES, 9, 20 + (more + 4) % 5);
+        lent v = lend_bytes(longer, 3, 6 + (more & 1));
         ready();
         expect(w, 0, w1, 10);
         expect(t, 0, t1, 10);
-        check("replace by a longer one", replace(a, w, t, 9, v, 4), 0, 1, 0, 10);
+        expect(c, 0, c1, 10);
+        check("replace by a longer one", replace(a, w, t, c, 9, v, 4), 0, 1, 0, 10);
     }
     start();
-    lent a = lend(A, 5), w = lend_bytes(T, 9, 23), t = lend_bytes(ENDS, 9, 21), v = lend(shorter, 1), long_v = lend(longer, 3);
-    lent old = lend(T + 1, 3), bad = lend(blank, 1), cut = lend(early, 1), two = lend(extra, 2), over = lend(zeros, BIG + 1);
+    lent a = lend(A, 5), w = lend_bytes(T, 9, 23), t = lend_bytes(ENDS, 9, 21), c = lend_bytes(CLASSES, 9, 25), v = lend(shorter, 1);
+    lent long_v = lend(longer, 3), old = lend(T + 1, 3), bad = lend(blank, 1), cut = lend(early, 1), two = lend(extra, 2), over = lend(zeros, BIG + 1);
+    lent short_c = {c.at, 21};
     ready();
-    check_refused("replace 17", replace(a, w, t, 9, v, 9), SPARROWHEM_POSITION, 9);
-    check_refused("replace 17, far", replace(a, w, t, 9, v, UINT64_C(1) << 40), SPARROWHEM_POSITION, UINT64_C(1) << 40);
-    check_refused("replace 27 before 17", replace(a, w, t, 9, bad, 9), SPARROWHEM_REPLACEMENT_STRAY, 0);
-    check_refused("replace 24", replace(a, w, t, 9, none, 0), SPARROWHEM_REPLACEMENT_EMPTY, 0);
-    check_refused("replace 25", replace(a, w, t, 9, over, 0), SPARROWHEM_REPLACEMENT_LONG, BIG + 1);
-    check_refused("replace 28", replace(a, w, t, 9, cut, 0), SPARROWHEM_REPLACEMENT_EARLY, 1);
-    check_refused("replace 29", replace(a, w, t, 9, two, 0), SPARROWHEM_REPLACEMENT_EXTRA, 1);
-    check_refused("replace 4", replace(a, w, t, 0, v, 0), SPARROWHEM_ROW_EMPTY, 0);
-    check_refused("replace 5", replace(a, w, t, 20000, v, 0), SPARROWHEM_ROW_LONG, 20000);
-    check_refused("replace 5, far", replace(a, w, t, UINT64_MAX, v, 0), SPARROWHEM_ROW_LONG, UINT64_MAX);
-    check_refused("replace 6, the row's buffer", replace(a, w, t, 12, v, 0), SPARROWHEM_BUFFER_SHORT, 12);
-    check_refused("replace 6, the table", replace(a, w, t, 11, v, 0), SPARROWHEM_BUFFER_SHORT, 11);
-    check_refused("replace 9", replace(a, w, t, 10, v, 0), SPARROWHEM_ROW_EXTRA, 9);
-    check_refused("replace 8", replace(a, w, t, 8, v, 0), SPARROWHEM_ROW_EARLY, 8);
-    check_refused("replace 1, nothing at all", replace(none, none, none, 0, none, 0), SPARROWHEM_ALPHABET_SIZE, 0);
+    check_refused("replace 17", replace(a, w, t, c, 9, v, 9), SPARROWHEM_POSITION, 9);
+    check_refused("replace 17, far", replace(a, w, t, c, 9, v, UINT64_C(1) << 40), SPARROWHEM_POSITION, UINT64_C(1) << 40);
+    check_refused("replace 27 before 17", replace(a, w, t, c, 9, bad, 9), SPARROWHEM_REPLACEMENT_STRAY, 0);
+    check_refused("replace 24", replace(a, w, t, c, 9, none, 0), SPARROWHEM_REPLACEMENT_EMPTY, 0);
+    check_refused("replace 25", replace(a, w, t, c, 9, over, 0), SPARROWHEM_REPLACEMENT_LONG, BIG + 1);
+    check_refused("replace 28", replace(a, w, t, c, 9, cut, 0), SPARROWHEM_REPLACEMENT_EARLY, 1);
+    check_refused("replace 29", replace(a, w, t, c, 9, two, 0), SPARROWHEM_REPLACEMENT_EXTRA, 1);
+    check_refused("replace 4", replace(a, w, t, c, 0, v, 0), SPARROWHEM_ROW_EMPTY, 0);
+    check_refused("replace 5", replace(a, w, t, c, 20000, v, 0), SPARROWHEM_ROW_LONG, 20000);
+    check_refused("replace 5, far", replace(a, w, t, c, UINT64_MAX, v, 0), SPARROWHEM_ROW_LONG, UINT64_MAX);
+    check_refused("replace 6, the row's buffer", replace(a, w, over, over, 12, v, 0), SPARROWHEM_BUFFER_SHORT, 12);
+    check_refused("replace 6, the table", replace(a, w, t, c, 11, v, 0), SPARROWHEM_BUFFER_SHORT, 11);
+    check_refused("replace 6, the classes", replace(a, w, over, short_c, 11, v, 0), SPARROWHEM_BUFFER_SHORT, 11);
+    check_refused("replace 6, no classes", replace(a, w, t, none, 9, v, 0), SPARROWHEM_BUFFER_SHORT, 9);
+    check_refused("replace 9", replace(a, w, t, c, 10, v, 0), SPARROWHEM_ROW_EXTRA, 9);
+    check_refused("replace 8", replace(a, w, t, c, 8, v, 0), SPARROWHEM_ROW_EARLY, 8);
+    check_refused("replace 1, nothing at all", replace(none, none, none, none, 0, none, 0), SPARROWHEM_ALPHABET_SIZE, 0);
     expect(w, 0, w2, 7);
     expect(w, 7, freed, 2);
     expect(t, 0, t2, 7);
     expect(t, 7, zeros, 2);
-    check("replace by a shorter one", replace(a, w, t, 9, v, 1), 0, -2, 0, 7);
-    check_refused("replace 10, the new table for the old length", replace(a, w, t, 9, v, 1), SPARROWHEM_ROW_EXTRA, 7);
+    expect(c, 0, c2, 7);
+    expect(c, 7, zeros, 2);
+    check("replace by a shorter one", replace(a, w, t, c, 9, v, 1), 0, -2, 0, 7);
+    check_refused("replace 9, the new row with the old length", replace(a, w, t, c, 9, v, 1), SPARROWHEM_ROW_EXTRA, 7);
     expect(w, 0, T, 9);
     expect(t, 0, ENDS, 9);
-    check("putting back", replace(a, w, t, 7, old, 1), 0, 2, 0, 9);
+    expect(c, 0, CLASSES, 9);
+    check("putting back", replace(a, w, t, c, 7, old, 1), 0, 2, 0, 9);
     ready();
-    check("the same again changes nothing", replace(a, w, t, 9, old, 1), 0, 0, 0, 9);
-    lent tight_w = {w.at, 19}, tight_t = {t.at, 19};
-    check_refused("replace 18, the row's buffer", replace(a, tight_w, t, 9, long_v, 4), SPARROWHEM_TOO_LONG, 10);
-    check_refused("replace 18, the table", replace(a, w, tight_t, 9, long_v, 4), SPARROWHEM_TOO_LONG, 10);
+    check("the same again changes nothing", replace(a, w, t, c, 9, old, 1), 0, 0, 0, 9);
+    lent tight_w = {w.at, 19}, tight_t = {t.at, 19}, tight_c = {c.at, 19};
+    check_refused("replace 18, the row's buffer", replace(a, tight_w, t, c, 9, long_v, 4), SPARROWHEM_TOO_LONG, 10);
+    check_refused("replace 18, the table", replace(a, w, tight_t, c, 9, long_v, 4), SPARROWHEM_TOO_LONG, 10);
+    check_refused("replace 18, the classes", replace(a, w, t, tight_c, 9, long_v, 4), SPARROWHEM_TOO_LONG, 10);
     t.at[9] ^= 1;
     ready();
-    check_refused("replace 10", replace(a, w, t, 9, v, 0), SPARROWHEM_STALE, 4);
-    check_refused("replace 10 before 25", replace(a, w, t, 9, over, 0), SPARROWHEM_STALE, 4);
+    check_refused("replace 10", replace(a, w, t, c, 9, v, 0), SPARROWHEM_STALE, 4);
+    check_refused("replace 10 before 25", replace(a, w, t, c, 9, over, 0), SPARROWHEM_STALE, 4);
 
     /* the longest row, in buffers that are longer still */
     static const unsigned pair[] = {2, 0};
     start();
-    a = lend(A, 5), w = lend_bytes(chain, BIG, 2 * BIG + 9), t = lend_bytes(chain_ends, BIG, 2 * BIG + 11), v = lend(zeros, 1), long_v = lend(pair, 2);
+    a = lend(A, 5), w = lend_bytes(chain, BIG, 2 * BIG + 9), t = lend_bytes(chain_ends, BIG, 2 * BIG + 11), c = lend_bytes(own, BIG, 2 * BIG + 7);
+    v = lend(zeros, 1), long_v = lend(pair, 2);
     ready();
-    check_refused("replace 18, over 16,384", replace(a, w, t, BIG, long_v, BIG - 1), SPARROWHEM_TOO_LONG, BIG + 1);
+    check_refused("replace 18, over 16,384", replace(a, w, t, c, BIG, long_v, BIG - 1), SPARROWHEM_TOO_LONG, BIG + 1);
     for (size_t i = 0; i < BIG; i++) {
-        unsigned free_row = 65535, free_table = 0;
+        unsigned free_row = SPARROWHEM_FREED_ROW, free_table = SPARROWHEM_FREED_TABLE, free_class = SPARROWHEM_FREED_CLASS;
         expect(w, i, &free_row, 1);
         expect(t, i, &free_table, 1);
+        expect(c, i, &free_class, 1);
     }
     static const unsigned one[] = {1};
     expect(w, 0, zeros, 1);
     expect(t, 0, one, 1);
-    check("replace the root of 16,384", replace(a, w, t, BIG, v, 0), 0, 1 - BIG, 0, 1);
+    check("replace the root of 16,384", replace(a, w, t, c, BIG, v, 0), 0, 1 - BIG, 0, 1);
+}
+
+/* Where the first of a kind goes, or an earlier one comes, classes change far from the replaced place; of the nodes above it too. */
+static void classes_far_away(void) {
+    static const unsigned row[] = {4, 3, 0, 1, 0, 3, 0, 1}, table[] = {8, 4, 3, 4, 5, 8, 7, 8}, classes[] = {0, 1, 2, 3, 2, 1, 2, 3};
+    static const unsigned gone[] = {4, 0, 0, 3, 0, 1}, gone_ends[] = {6, 2, 3, 6, 5, 6}, gone_classes[] = {0, 1, 1, 3, 1, 5};
+    static const unsigned come[] = {4, 3, 0, 1, 3, 0, 1, 3, 0, 1}, come_ends[] = {10, 4, 3, 4, 7, 6, 7, 10, 9, 10};
+    static const unsigned come_classes[] = {0, 1, 2, 3, 1, 2, 3, 1, 2, 3}, leaf[] = {0}, freed[] = {65535, 65535};
+    start();
+    lent a = lend(A, 5), w = lend_bytes(row, 8, 20), t = lend_bytes(table, 8, 20), c = lend_bytes(classes, 8, 20), v = lend(leaf, 1), u = lend(row + 1, 3);
+    ready();
+    expect(w, 0, come, 10);
+    expect(t, 0, come_ends, 10);
+    expect(c, 0, come_classes, 10);
+    check("one more of a kind", replace(a, w, t, c, 8, u, 4), 0, 2, 0, 10);
+    expect(w, 0, row, 8);
+    expect(w, 8, freed, 2);
+    expect(t, 0, table, 8);
+    expect(t, 8, zeros, 2);
+    expect(c, 0, classes, 8);
+    expect(c, 8, zeros, 2);
+    check("and put back", replace(a, w, t, c, 10, v, 4), 0, -2, 0, 8);
+    expect(w, 0, gone, 6);
+    expect(w, 6, freed, 2);
+    expect(t, 0, gone_ends, 6);
+    expect(t, 6, zeros, 2);
+    expect(c, 0, gone_classes, 6);
+    expect(c, 6, zeros, 2);
+    check("the first of a kind is gone", replace(a, w, t, c, 8, v, 1), 0, -2, 0, 6);
 }
 
 /* What a call takes of the stack: it runs on a painted one. */
 static uint8_t painted[1 << 19];
-static lent run_a, run_w, run_t, run_q, run_o;
+static lent run_a, run_w, run_t, run_c, run_q, run_o;
 static size_t run_n;
 
 static void run_nothing(void) {}
-static void run_build(void) { build(run_a, run_w, run_t); }
-static void run_find(void) { find(run_a, run_w, run_t, run_q, run_o); }
-static void run_replace(void) { replace(run_a, run_w, run_t, run_n, run_o, 0); }
+static void run_build(void) { build(run_a, run_w, run_t, run_c); }
+static void run_find(void) { find(run_a, run_w, run_t, run_c, run_q, run_o); }
+static void run_replace(void) { replace(run_a, run_w, run_t, run_c, run_n, run_o, 0); }
 
 static size_t stack_of(void (*run)(void)) {
     uint8_t *top = painted + sizeof painted - 64;
@@ -347,17 +475,37 @@ static void check_stack(const char *call, void (*run)(void), size_t kib) {
     check_that("a call takes no more stack than the header says", most < kib * 1024);
 }
 
-/* A chain of n symbols; find with S alone; replace of the whole row by one as long. */
-static void stacks(size_t n, size_t build_kib, size_t find_kib, size_t replace_kib) {
+/* What the header says, in KiB: build; find and replace in a row of at most 256 symbols; and in the longest. */
+enum { BUILD_KIB = 104, SHORT_KIB = 16, FIND_KIB = 240, REPLACE_KIB = 272 };
+
+/* A row of n symbols; find with S alone; replace of the whole row by one as long; then find once more, with a wrong last class. */
+static void stacks_of(const unsigned *row, size_t n, size_t build_kib, size_t find_kib, size_t replace_kib) {
     static const unsigned any[] = {S};
     start();
     run_n = n;
-    run_a = lend(A, 5), run_w = lend(chain + BIG - n, n), run_t = lend(zeros, n), run_q = lend(any, 1), run_o = lend(zeros, n);
+    run_a = lend(A, 5), run_w = lend(row, n), run_t = lend(zeros, n), run_c = lend(zeros, n), run_q = lend(any, 1), run_o = lend(zeros, n);
     check_stack("build", run_build, build_kib);
+    check_that("which answered", build(run_a, run_w, run_t, run_c).refusal == SPARROWHEM_ANSWERED);
     check_stack("find", run_find, find_kib);
+    check_that("which answered", sparrowhem_get(run_o.at, n - 1) == n - 1);
     memcpy(run_o.at, run_w.at, run_w.bytes);
     check_stack("replace", run_replace, replace_kib);
-    check_that("which answered", sparrowhem_get(run_t.at, n - 1) == n);
+    check_that("which answered", replace(run_a, run_w, run_t, run_c, n, run_o, 0).refusal == SPARROWHEM_ANSWERED);
+    run_c.at[2 * n - 1] ^= 1;
+    check_stack("find, refused for a class,", run_find, find_kib);
+    check_that("which refused", find(run_a, run_w, run_t, run_c, run_q, run_o).refusal == SPARROWHEM_STALE_CLASS);
+}
+
+/* On a chain, and on a right comb of two leaves, in which half of the subtrees are leaves and no two of the others are equal. */
+static void stacks(size_t n, size_t build_kib, size_t find_kib, size_t replace_kib) {
+    static unsigned comb[BIG];
+    for (size_t i = 0; i < n; i++) {
+        comb[i] = i % 2 ? (unsigned)(i / 2 % 2) : 3;
+    }
+    comb[n - 2] = n % 2 ? comb[n - 2] : 2;
+    comb[n - 1] = 0;
+    stacks_of(chain + BIG - n, n, build_kib, find_kib, replace_kib);
+    stacks_of(comb, n, build_kib, find_kib, replace_kib);
 }
 
 /* What the header itself defines. */
@@ -380,10 +528,12 @@ int main(void) {
         && offsetof(sparrowhem_answer, place) == 8 && offsetof(sparrowhem_answer, count) == 16);
     builds();
     finds();
+    wrong_classes();
     replaces();
-    stacks(9, 36, 12, 12);
-    stacks(256, 36, 12, 12);
-    stacks(BIG, 36, 110, 145);
+    classes_far_away();
+    stacks(9, BUILD_KIB, SHORT_KIB, SHORT_KIB);
+    stacks(256, BUILD_KIB, SHORT_KIB, SHORT_KIB);
+    stacks(BIG, BUILD_KIB, FIND_KIB, REPLACE_KIB);
     printf("%u passed, %u failed\n", passed, failed);
     return failed != 0;
 }

@@ -2,6 +2,7 @@
 // a model of docs/SCOPE.md that is written from what a row means: a tree. The model shares nothing with the proved code.
 //
 // drive [--seed N] [--inputs N] SERVER [WORD..]: the last words start the server. Its last line is `N passed, M failed`.
+use std::collections::HashMap;
 use std::io::{Read, Write};
 use std::process::{Child, ChildStdin, ChildStdout, Command, Stdio};
 
@@ -117,6 +118,23 @@ fn subtrees<'a>(t: &'a Node, all: &mut Vec<&'a Node>) {
     }
 }
 
+// For each position the first whose subtree is equal, symbol by symbol. Only subtrees of one size are compared, and only with
+// those that were the first of their kind.
+fn classes_of(t: &Node) -> Vec<u16> {
+    let (row, table) = (row_of(t), table_of(t));
+    let mut firsts: HashMap<usize, Vec<usize>> = HashMap::new();
+    let mut class = |p: usize| {
+        let size = table[p] as usize - p;
+        let same_size = firsts.entry(size).or_default();
+        if let Some(&q) = same_size.iter().find(|&&q| row[q..q + size] == row[p..p + size]) {
+            return q as u16;
+        }
+        same_size.push(p);
+        p as u16
+    };
+    (0..row.len()).map(&mut class).collect()
+}
+
 fn equal(a: &Node, b: &Node) -> bool {
     a.symbol == b.symbol && a.children.len() == b.children.len() && a.children.iter().zip(&b.children).all(|(x, y)| equal(x, y))
 }
@@ -186,6 +204,7 @@ struct Lent {
     arities: Vec<u8>,
     row: Vec<u8>,
     table: Vec<u8>,
+    classes: Vec<u8>,
     other: Vec<u8>, // pattern or replacement
     out: Vec<u8>,
     length: u64,
@@ -212,24 +231,35 @@ fn row_tree(x: &Lent, n: u64, room: usize) -> Result<(Vec<u16>, Node), Refused> 
     Ok((arities, t))
 }
 
-// Refusal 10.
-fn stale(x: &Lent, t: &Node) -> Result<(), Refused> {
-    let table = numbers(&x.table);
-    match table_of(t).iter().zip(&table).position(|(e, g)| e != g) {
-        Some(p) => Err((10, p as u64)),
+// The first place where what is kept beside a row is not the row's, and the refusal for it.
+fn differs(refusal: u32, right: &[u16], kept: &[u8]) -> Result<(), Refused> {
+    match right.iter().zip(&numbers(kept)).position(|(e, g)| e != g) {
+        Some(p) => Err((refusal, p as u64)),
         None => Ok(()),
     }
 }
 
+// Refusals 10 and 62.
+fn stale(x: &Lent, t: &Node) -> Result<(), Refused> {
+    differs(10, &table_of(t), &x.table)?;
+    differs(62, &classes_of(t), &x.classes)
+}
+
+// How many numbers the shorter list of those beside the row has.
+fn room_beside(x: &Lent) -> usize {
+    x.table.len().min(x.classes.len()) / 2
+}
+
 fn model_build(x: &mut Lent) -> Result<Answer, Refused> {
     let n = x.row.len() / 2;
-    let (_, t) = row_tree(x, n as u64, x.table.len() / 2)?;
+    let (_, t) = row_tree(x, n as u64, room_beside(x))?;
     store(&mut x.table, 0, &table_of(&t));
+    store(&mut x.classes, 0, &classes_of(&t));
     Ok(Answer { count: n as u64, ..Answer::default() })
 }
 
 fn model_find(x: &mut Lent) -> Result<Answer, Refused> {
-    let (arities, t) = row_tree(x, x.row.len() as u64 / 2, x.table.len() / 2)?;
+    let (arities, t) = row_tree(x, x.row.len() as u64 / 2, room_beside(x))?;
     stale(x, &t)?;
     let list = numbers(&x.other);
     size_fault(list.len() as u64, &PATTERN)?;
@@ -242,7 +272,7 @@ fn model_find(x: &mut Lent) -> Result<Answer, Refused> {
 }
 
 fn model_replace(x: &mut Lent) -> Result<Answer, Refused> {
-    let room = (x.row.len() / 2).min(x.table.len() / 2);
+    let room = (x.row.len() / 2).min(room_beside(x));
     let (arities, t) = row_tree(x, x.length, room)?;
     stale(x, &t)?;
     let list = numbers(&x.other);
@@ -259,9 +289,11 @@ fn model_replace(x: &mut Lent) -> Result<Answer, Refused> {
     }
     store(&mut x.row, 0, &row);
     store(&mut x.table, 0, &table_of(&new));
+    store(&mut x.classes, 0, &classes_of(&new));
     for free in m..old {
         store(&mut x.row, free, &[65535]);
         store(&mut x.table, free, &[0]);
+        store(&mut x.classes, free, &[0]);
     }
     Ok(Answer { change: m as i32 - old as i32, count: m as u64, ..Answer::default() })
 }
@@ -288,7 +320,7 @@ impl Server {
 
     // The answer, and whether a byte changed that no call may change; the buffers are as the call left them.
     fn call(&mut self, call: u32, shift: u32, x: &mut Lent) -> (Answer, bool) {
-        let lists = [&x.arities, &x.row, &x.table, &x.other, &x.out];
+        let lists = [&x.arities, &x.row, &x.table, &x.classes, &x.other, &x.out];
         let mut q = vec![];
         q.extend(call.to_le_bytes());
         q.extend(shift.to_le_bytes());
@@ -297,21 +329,49 @@ impl Server {
         lists.iter().for_each(|l| q.extend((l.len() as u32).to_le_bytes()));
         lists.iter().for_each(|l| q.extend(l.iter()));
         self.to.write_all(&q).expect("the server reads");
-        let mut a = vec![0u8; 28 + x.row.len() + x.table.len() + x.out.len()];
+        let mut a = vec![0u8; 28 + x.row.len() + x.table.len() + x.classes.len() + x.out.len()];
         self.from.read_exact(&mut a).expect("the server answers");
         let word = |i: usize| u32::from_le_bytes([a[i], a[i + 1], a[i + 2], a[i + 3]]);
         let long = |i: usize| word(i) as u64 + ((word(i + 4) as u64) << 32);
         let answer = Answer { refusal: word(0), change: word(4) as i32, place: long(8), count: long(16) };
         let damage = word(24) != 0;
-        let (r, t) = (28 + x.row.len(), 28 + x.row.len() + x.table.len());
-        x.row.copy_from_slice(&a[28..r]);
-        x.table.copy_from_slice(&a[r..t]);
-        x.out.copy_from_slice(&a[t..]);
+        let mut left = &a[28..];
+        for list in [&mut x.row, &mut x.table, &mut x.classes, &mut x.out] {
+            let (mine, rest) = left.split_at(list.len());
+            list.copy_from_slice(mine);
+            left = rest;
+        }
         (answer, damage)
     }
 }
 
 // ---- random inputs ---------------------------------------------------------------------------------------------------------
+
+// How classes are made wrong.
+#[derive(Clone, Copy, Debug)]
+enum Wrong {
+    OneOff,
+    BehindRow,
+    AllZero,
+    AllOwn,
+    Shuffled,
+    Noise,
+    LaterEqual,
+    LaterLeads,
+    CopyLeads,
+}
+
+const WRONGS: [Wrong; 9] = [
+    Wrong::OneOff,
+    Wrong::BehindRow,
+    Wrong::AllZero,
+    Wrong::AllOwn,
+    Wrong::Shuffled,
+    Wrong::Noise,
+    Wrong::LaterEqual,
+    Wrong::LaterLeads,
+    Wrong::CopyLeads,
+];
 
 struct Dice(u64);
 
@@ -371,10 +431,69 @@ impl Dice {
         }
     }
 
+    // A row in which some leaves have given way to one of a few blocks, so that long subtrees stand there again and again.
+    fn repeating_row(&mut self, arities: &[u16], n: usize) -> Vec<u16> {
+        let blocks = [(); 3].map(|()| {
+            let most = 1 + self.below(9);
+            self.row(arities, most, true)
+        });
+        let frame = self.row(arities, 1 + n / 6, false);
+        let mut spare = n - frame.len();
+        let mut row = vec![];
+        for s in frame {
+            let block = &blocks[self.below(3)];
+            if arities[s as usize] == 0 && block.len() <= spare && !self.one_in(4) {
+                spare -= block.len();
+                row.extend(block);
+            } else {
+                row.push(s);
+            }
+        }
+        row
+    }
+
     fn good_row(&mut self, arities: &[u16]) -> Vec<u16> {
         let n = self.length();
+        if n != MOST && self.one_in(3) {
+            return self.repeating_row(arities, n);
+        }
         let exact = self.one_in(3) || n == MOST;
         self.row(arities, n, exact)
+    }
+
+    // Classes that are no longer the row's, or, where the row has no such place, still are.
+    fn misclass(&mut self, wrong: Wrong, row: &[u16], table: &[u16], classes: &mut [u16]) {
+        let n = row.len();
+        // two positions with equal subtrees, the first of their kind and a later one, if the row has such
+        let later: Vec<usize> = (0..n).filter(|&p| (classes[p] as usize) < p).collect();
+        let pair = if later.is_empty() { None } else { Some(self.pick(&later)).map(|p| (classes[p] as usize, p)) };
+        let p = self.below(n);
+        match (wrong, pair) {
+            (Wrong::OneOff, _) => classes[p] = classes[p].wrapping_add(self.pick(&[1, 65535, 2, 256, 16384, 32768, 49152])),
+            (Wrong::BehindRow, _) => classes[p] = self.pick(&[n as u16, n as u16 + 1, 16383, 16384, 65535]),
+            (Wrong::AllZero, _) => classes.fill(0),
+            (Wrong::AllOwn, _) => (0..n).for_each(|p| classes[p] = p as u16),
+            (Wrong::Shuffled, _) => classes.swap(p, self.below(n)),
+            (Wrong::Noise, _) => classes.iter_mut().for_each(|c| *c = self.below(n + 1) as u16),
+            // one position names another with an equal subtree, maybe itself
+            (Wrong::LaterEqual, Some((first, _))) => {
+                let same: Vec<usize> = (first..n).filter(|&q| classes[q] as usize == first).collect();
+                let (at, named) = (self.pick(&same), self.pick(&same[1..]));
+                classes[at] = named as u16;
+            }
+            // all of a kind name one that is not the first, the first too or only those from there on
+            (Wrong::LaterLeads, Some((first, second))) => {
+                let from = self.pick(&[first, second]);
+                classes[from..].iter_mut().filter(|c| **c as usize == first).for_each(|c| *c = second as u16);
+            }
+            // a repeated subtree and all below it stand for themselves, as in a row of which they are the first of their kind
+            (Wrong::CopyLeads, Some((first, second))) => {
+                let end = table[second] as usize;
+                let inside = first as u16..(first + end - second) as u16;
+                classes[second..end].iter_mut().filter(|c| inside.contains(c)).for_each(|c| *c += (second - first) as u16);
+            }
+            (_, None) => (),
+        }
     }
 
     // One fault, or none that shows.
@@ -464,7 +583,18 @@ struct Test {
     seed: u64,
     input: u64,
     answered: u64,
-    refused: [u64; 30],
+    refused: [u64; 63],
+    wrong: Option<Wrong>,             // how the classes of the next input are made wrong
+    misclassed: [u64; WRONGS.len()], // inputs refused with 62, by how
+}
+
+// What a host keeps, mostly right, and whether it is.
+struct Kept {
+    arities: Vec<u16>,
+    row: Vec<u16>,
+    table: Vec<u16>,
+    classes: Vec<u16>,
+    good: bool,
 }
 
 fn shown(b: &[u8]) -> String {
@@ -492,14 +622,19 @@ impl Test {
         } else {
             self.refused[want.refusal as usize] += 1;
         }
+        if let (62, Some(wrong)) = (want.refusal, self.wrong.take()) {
+            self.misclassed[wrong as usize] += 1;
+        }
         if got == want && *x == wanted && !damage {
             return Ok(got);
         }
         let mut s = format!("FAILED: seed {}, input {}, call {}\n", self.seed, self.input, ["", "build", "find", "replace"][call as usize]);
-        s += &format!("  arities {}\n  row {}\n  table {}\n", shown(&given.arities), shown(&given.row), shown(&given.table));
+        s += &format!("  arities {}\n  row {}\n", shown(&given.arities), shown(&given.row));
+        s += &format!("  table {}\n  classes {}\n", shown(&given.table), shown(&given.classes));
         s += &format!("  pattern or replacement {}\n  output {}\n", shown(&given.other), shown(&given.out));
         s += &format!("  row length {}, position {}\n  wanted {:?}\n  got    {:?}\n", given.length, given.position, want, got);
-        s += &format!("  row {}, table {}, output {}, other bytes {}", x.row == wanted.row, x.table == wanted.table, x.out == wanted.out, !damage);
+        s += &format!("  row {}, table {}, classes {}", x.row == wanted.row, x.table == wanted.table, x.classes == wanted.classes);
+        s += &format!(", output {}, other bytes {}", x.out == wanted.out, !damage);
         Err(s)
     }
 
@@ -513,26 +648,35 @@ impl Test {
         if d.one_in(12) {
             d.bad_alphabet(&mut arities);
         }
-        let more = d.pick(&[0, 0, 1, 2, 3, 40]);
-        let mut table = d.buffer(&vec![7; row.len()], more);
-        if d.one_in(12) {
-            table.truncate(table.len().saturating_sub(1 + more + d.below(4)));
-        }
-        let mut x = Lent { arities: d.lend(&arities), row: d.lend(&row), table, ..Lent::default() };
+        let [table, classes] = [(); 2].map(|()| {
+            let more = d.pick(&[0, 0, 1, 2, 3, 40]);
+            let mut list = d.buffer(&vec![7; row.len()], more);
+            if d.one_in(16) {
+                list.truncate(list.len().saturating_sub(1 + more + d.below(4)));
+            }
+            list
+        });
+        let mut x = Lent { arities: d.lend(&arities), row: d.lend(&row), table, classes, ..Lent::default() };
         self.hold(BUILD, &mut x).map(|_| ())
     }
 
-    // A row with its table, mostly good; where it is, its tree.
-    fn kept(&mut self) -> (Vec<u16>, Vec<u16>, Vec<u16>, bool) {
+    fn kept(&mut self) -> Kept {
         let d = &mut self.dice;
         let mut arities = d.alphabet();
         let mut row = d.good_row(&arities);
-        let mut table = table_of(&tree(&arities, &row, &ROW).ok().expect("a good row"));
+        let t = tree(&arities, &row, &ROW).ok().expect("a good row");
+        let (mut table, mut classes) = (table_of(&t), classes_of(&t));
         let mut good = true;
+        self.wrong = if d.one_in(5) { Some(d.pick(&WRONGS)) } else { None };
+        if let Some(wrong) = self.wrong {
+            good = false;
+            d.misclass(wrong, &row, &table, &mut classes);
+        }
         if d.one_in(16) {
             good = false;
             d.damage(&mut row, arities.len());
             table.resize(row.len(), 1);
+            classes.resize(row.len(), 0);
         }
         if d.one_in(24) {
             good = false;
@@ -543,15 +687,18 @@ impl Test {
             let k = d.below(table.len());
             table[k] = table[k].wrapping_add(d.pick(&[1, 65535, 256, 3]));
         }
-        (arities, row, table, good)
+        Kept { arities, row, table, classes, good }
     }
 
     fn finds(&mut self) -> Result<(), String> {
-        let (arities, row, table, good) = self.kept();
+        let Kept { arities, row, table, classes, good } = self.kept();
         let d = &mut self.dice;
         let mut pattern = if good && !d.one_in(6) { d.pattern(&arities, &row, &table) } else { vec![BLANK] };
         if d.one_in(10) {
             d.damage(&mut pattern, arities.len());
+        }
+        if d.one_in(40) {
+            pattern.clear();
         }
         if d.one_in(200) {
             pattern = vec![1; d.pick(&[255, 256, 257, 300])];
@@ -559,11 +706,15 @@ impl Test {
                 pattern.push(BLANK);
             }
         }
-        let more = d.pick(&[0, 0, 1, 2, 9]);
-        let mut x = Lent { arities: d.lend(&arities), row: d.lend(&row), table: d.buffer(&table, more), other: d.lend(&pattern), ..Lent::default() };
-        if d.one_in(20) {
-            x.table.truncate(x.table.len().saturating_sub(1 + d.below(3)));
-        }
+        let [table, classes] = [&table, &classes].map(|list| {
+            let more = d.pick(&[0, 0, 1, 2, 9]);
+            let mut list = d.buffer(list, more);
+            if d.one_in(30) {
+                list.truncate(list.len().saturating_sub(1 + d.below(3)));
+            }
+            list
+        });
+        let mut x = Lent { arities: d.lend(&arities), row: d.lend(&row), table, classes, other: d.lend(&pattern), ..Lent::default() };
         let found = model_find(&mut Lent { out: vec![0; 2 * row.len() + 2], ..x.clone() }).map_or(3, |a| a.count as usize);
         let d = &mut self.dice;
         let places = d.pick(&[2 * found, 2 * found, 2 * found + 1, 2 * found + 8, (2 * found).saturating_sub(1), 2 * MOST + 11, 0]);
@@ -572,36 +723,72 @@ impl Test {
     }
 
     fn replaces(&mut self) -> Result<(), String> {
-        let (arities, row, table, good) = self.kept();
+        let Kept { arities, row, table, classes, good } = self.kept();
         let d = &mut self.dice;
         let mut v = if good { d.good_row(&arities) } else { vec![0] };
         if d.one_in(12) {
             d.damage(&mut v, arities.len().max(1));
+        }
+        if d.one_in(40) {
+            v.clear();
         }
         if d.one_in(300) {
             v = vec![0; MOST + 1 + d.below(3)];
         }
         let p = if d.one_in(20) { row.len() + d.below(3) } else { d.below(row.len().max(1)) };
         let m = if good && p < row.len() { row.len() + v.len() - (table[p] as usize - p) } else { row.len() };
-        let spare = |d: &mut Dice| d.pick(&[0, 0, 1, 2, 3, 500]) + 2 * m.saturating_sub(row.len()) - if d.one_in(8) && m > row.len() { 1 } else { 0 };
-        let (more_row, more_table) = (spare(d), spare(d));
+        // a buffer has just room for the new row, or more, or is a byte short of that
+        let mut buffer = |list: &[u16]| {
+            let short = d.one_in(8) && m > row.len();
+            let more = d.pick(&[0, 0, 1, 2, 3, 500]) + 2 * m.saturating_sub(row.len()) - short as usize;
+            d.buffer(list, more)
+        };
+        let (row_buffer, table, classes) = (buffer(&row), buffer(&table), buffer(&classes));
         let mut length = row.len() as u64;
         if d.one_in(30) {
             length = d.pick(&[0, length + 1, length + 2, 16385, 65536, 1 << 40, u64::MAX, length.saturating_sub(1)]);
         }
         let position = if d.one_in(60) { d.pick(&[65536, 1 << 32, u64::MAX]) } else { p as u64 };
-        let mut x = Lent { arities: d.lend(&arities), row: d.buffer(&row, more_row), table: d.buffer(&table, more_table), other: d.lend(&v), length, position, ..Lent::default() };
+        let mut x = Lent { arities: d.lend(&arities), row: row_buffer, table, classes, other: d.lend(&v), length, position, ..Lent::default() };
+        if d.one_in(30) {
+            let list = match d.below(3) {
+                0 => &mut x.row,
+                1 => &mut x.table,
+                _ => &mut x.classes,
+            };
+            list.truncate((2 * row.len()).saturating_sub(1 + d.below(3)));
+        }
         self.hold(REPLACE, &mut x).map(|_| ())
     }
 
-    // A run of replacements in one pair of buffers, refused ones among them, and then all of them put back.
+    // What is kept after a run is what build gives for the row.
+    fn as_built(&mut self, x: &Lent) -> Result<(), String> {
+        let n = 2 * x.length as usize;
+        let d = &mut self.dice;
+        let mut fresh = Lent { arities: x.arities.clone(), row: x.row[..n].to_vec(), table: d.buffer(&[], n), classes: d.buffer(&[], n), ..Lent::default() };
+        self.hold(BUILD, &mut fresh)?;
+        if fresh.table != x.table[..n] || fresh.classes != x.classes[..n] {
+            return Err(format!("FAILED: seed {}, input {}: a run did not leave what build gives", self.seed, self.input));
+        }
+        Ok(())
+    }
+
+    // A run of replacements in the same buffers, refused ones among them, and then all of them put back.
     fn runs(&mut self) -> Result<(), String> {
         let d = &mut self.dice;
         let arities = d.alphabet();
         let row = d.good_row(&arities);
-        let table = table_of(&tree(&arities, &row, &ROW).ok().expect("a good row"));
+        let t = tree(&arities, &row, &ROW).ok().expect("a good row");
+        let (table, classes) = (table_of(&t), classes_of(&t));
         let more = 2 * d.below(200);
-        let mut x = Lent { arities: d.lend(&arities), row: d.buffer(&row, more + 1), table: d.buffer(&table, more), length: row.len() as u64, ..Lent::default() };
+        let mut x = Lent {
+            arities: d.lend(&arities),
+            row: d.buffer(&row, more + 1),
+            table: d.buffer(&table, more),
+            classes: d.buffer(&classes, more + 3),
+            length: row.len() as u64,
+            ..Lent::default()
+        };
         let mut undo: Vec<(u64, Vec<u16>)> = vec![];
         for _ in 0..1 + self.dice.below(20) {
             let d = &mut self.dice;
@@ -619,6 +806,7 @@ impl Test {
                 x.length = a.count;
             }
         }
+        self.as_built(&x)?;
         while let Some((p, old)) = undo.pop() {
             x.other = self.dice.lend(&old);
             x.position = p;
@@ -628,7 +816,8 @@ impl Test {
             }
             x.length = a.count;
         }
-        if numbers(&x.row)[..row.len()] != row[..] || numbers(&x.table)[..row.len()] != table[..] || x.length != row.len() as u64 {
+        let brought_back = [(&x.row, &row), (&x.table, &table), (&x.classes, &classes)].into_iter().all(|(now, was)| now.starts_with(&bytes(was)));
+        if !brought_back || x.length != row.len() as u64 {
             return Err(format!("FAILED: seed {}, input {}: putting all back did not bring the row back", self.seed, self.input));
         }
         Ok(())
@@ -650,7 +839,7 @@ fn test() -> bool {
     let mut words: Vec<String> = std::env::args().skip(1).collect();
     let seed = number(&mut words, "--seed", 20260101);
     let inputs = number(&mut words, "--inputs", 100_000);
-    let mut t = Test { server: Server::start(&words), dice: Dice(seed), seed, input: 0, answered: 0, refused: [0; 30] };
+    let mut t = Test { server: Server::start(&words), dice: Dice(seed), seed, input: 0, answered: 0, refused: [0; 63], wrong: None, misclassed: [0; WRONGS.len()] };
     let kinds: [(&str, fn(&mut Test) -> Result<(), String>); 4] =
         [("build", Test::builds), ("find", Test::finds), ("replace", Test::replaces), ("runs of replacements, put back", Test::runs)];
     let (mut passed, mut failed) = (0, 0);
@@ -676,11 +865,18 @@ fn test() -> bool {
         println!("FAILED: the server did not end well");
         failed += 1;
     }
-    let all = [1, 2, 3, 4, 5, 6, 7, 8, 9, 10, 11, 12, 13, 14, 15, 17, 18, 19, 24, 25, 27, 28, 29];
+    let all = [1, 2, 3, 4, 5, 6, 7, 8, 9, 10, 11, 12, 13, 14, 15, 17, 18, 19, 24, 25, 27, 28, 29, 62];
     match all.iter().find(|&&r| t.refused[r] == 0) {
         None => passed += 1,
         Some(r) => {
             println!("FAILED: seed {seed}: no input was refused with {r}");
+            failed += 1;
+        }
+    }
+    match WRONGS.iter().find(|&&wrong| t.misclassed[wrong as usize] == 0) {
+        None => passed += 1,
+        Some(wrong) => {
+            println!("FAILED: seed {seed}: no input was refused with 62 for {wrong:?}");
             failed += 1;
         }
     }

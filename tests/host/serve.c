@@ -1,10 +1,10 @@
 /* The archive as a server, so that a test on any machine can drive it: reads requests on standard input, writes answers on
    standard output, until the input ends.
 
-   A request: u32 call (1 build, 2 find, 3 replace), u32 shift, u64 row length, u64 position, u32 bytes of each of five lists
-   (arities, row, table, pattern or replacement, output), then the lists. Each list is lent at an address that is odd where
-   the shift is, with guard bytes round it; a list of no bytes by a null pointer.
-   An answer: u32 refusal, i32 change, u64 place, u64 count, u32 damage, then row, table and output as the call left them.
+   A request: u32 call (1 build, 2 find, 3 replace), u32 shift, u64 row length, u64 position, u32 bytes of each of six lists
+   (arities, row, table, classes, pattern or replacement, output), then the lists. Each list is lent at an address that is odd
+   where the shift is, with guard bytes round it; a list of no bytes by a null pointer.
+   An answer: u32 refusal, i32 change, u64 place, u64 count, u32 damage, then row, table, classes and output as the call left them.
    Damage is 1 where a guard byte, or a list that is only read, has changed. All numbers have their low byte first. */
 #include <stddef.h>
 #include <stdint.h>
@@ -12,10 +12,12 @@
 #include <unistd.h>
 #include <sparrowhem.h>
 
-enum { LISTS = 5, MOST = 80000, GUARD = 64 };
+enum { ARITIES, ROW, TABLE, CLASSES, OTHER, OUTPUT, LISTS };
+enum { BUILD = 1, FIND, REPLACE };
+enum { MOST = 80000, GUARD = 64 };
 
 static uint8_t space[LISTS][MOST + 2 * GUARD + 2] __attribute__((aligned(64)));
-static uint8_t lists[LISTS * MOST], answer[28 + 3 * MOST];
+static uint8_t lists[LISTS * MOST], answer[28 + LISTS * MOST];
 
 static int take(void *to, size_t bytes) {
     for (size_t done = 0; done < bytes;) {
@@ -43,13 +45,24 @@ static int guards_hold(const uint8_t *whole, const uint8_t *list, size_t bytes) 
     return 1;
 }
 
+/* Does the call write that list? */
+static int writes(uint32_t call, int list) {
+    switch (list) {
+    case ROW: return call == REPLACE;
+    case TABLE:
+    case CLASSES: return call == BUILD || call == REPLACE;
+    case OUTPUT: return call == FIND;
+    default: return 0;
+    }
+}
+
 int main(void) {
     struct {
         uint32_t call, shift;
         uint64_t length, position;
-        uint32_t bytes[LISTS + 1];
+        uint32_t bytes[LISTS];
     } q;
-    while (take(&q, 24 + 4 * LISTS)) {
+    while (take(&q, sizeof q)) {
         uint8_t *list[LISTS], *next = lists;
         uint32_t damage = 0;
         size_t all = 0;
@@ -67,24 +80,25 @@ int main(void) {
 #define LENT(i) (q.bytes[i] ? list[i] : 0), q.bytes[i]
         sparrowhem_answer a = {0, 0, 0, 0};
         switch (q.call) {
-        case 1: a = sparrowhem_build(LENT(0), LENT(1), LENT(2)); break;
-        case 2: a = sparrowhem_find(LENT(0), LENT(1), LENT(2), LENT(3), LENT(4)); break;
-        case 3: a = sparrowhem_replace(LENT(0), LENT(1), LENT(2), q.length, LENT(3), q.position); break;
+        case BUILD: a = sparrowhem_build(LENT(ARITIES), LENT(ROW), LENT(TABLE), LENT(CLASSES)); break;
+        case FIND: a = sparrowhem_find(LENT(ARITIES), LENT(ROW), LENT(TABLE), LENT(CLASSES), LENT(OTHER), LENT(OUTPUT)); break;
+        case REPLACE:
+            a = sparrowhem_replace(LENT(ARITIES), LENT(ROW), LENT(TABLE), LENT(CLASSES), q.length, LENT(OTHER), q.position);
+            break;
         default: return 1;
         }
         next = lists;
         for (int i = 0; i < LISTS; i++) {
-            int is_written = (q.call == 1 && i == 2) || (q.call == 2 && i == 4) || (q.call == 3 && (i == 1 || i == 2));
             if (!guards_hold(space[i], list[i], q.bytes[i])) damage = 1;
-            if (!is_written && memcmp(next, list[i], q.bytes[i]) != 0) damage = 1;
+            if (!writes(q.call, i) && memcmp(next, list[i], q.bytes[i]) != 0) damage = 1;
             next += q.bytes[i];
         }
         next = answer;
         memcpy(next, &a, 24);
         memcpy(next + 24, &damage, 4);
         next += 28;
-        for (int i = 1; i < LISTS; i++) {
-            if (i == 3) continue;
+        for (int i = ROW; i < LISTS; i++) {
+            if (i == OTHER) continue;
             memcpy(next, list[i], q.bytes[i]);
             next += q.bytes[i];
         }

@@ -51,6 +51,15 @@ renewed-parts b n x p k m a v t ea ek em nb mb =
     ∙ ap (λ (j : ℕ). written b 0 (w ++ replicate (n - j) x)) (sym lw)
     ∙ renewed-front b n x w
 
+-- The whole is written at once, and then the blanks.
+pub renewed-whole : (b : List ℕ) (n x m : ℕ) (w : List ℕ) → length w ≡ m → n ≤ length b → m ≤ length b
+    → written (written b 0 w) m (replicate (n - m) x) ≡ renewed b n x w
+renewed-whole b n x m w e nb mb =
+    let lR : length (replicate (n - m) x) ≡ n - m = length-replicate (n - m) x in
+    written-right b 0 w (replicate (n - m) x) m (omega arith) (omega arith)
+    ∙ ap (λ (j : ℕ). written b 0 (w ++ replicate (n - j) x)) (sym e)
+    ∙ renewed-front b n x w
+
 -- a renewed buffer begins with what is new, and keeps its length
 pub take-renewed : (b : List ℕ) (n x : ℕ) (w : List ℕ) (k : ℕ) → length w ≡ k → take k (renewed b n x w) ≡ w
 unfolding renewed

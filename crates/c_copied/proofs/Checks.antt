@@ -9,20 +9,22 @@ use lib.ListN.{length}
 use Rattle.rows.specs.Limits.{patternMost, rowMost}
 use Rattle.rows.specs.Programme.{Alphabet, Programme, room, front}
 use Rattle.rows.specs.Row.{sized, reading}
-use Rattle.rows.specs.Refusals.{_then_, alphabet, sizes, symbols, fresh, kept, given, pattern, replacement}
+use Rattle.rows.specs.Refusals.{_then_, alphabet, sizes, symbols, fresh, classed, kept, given, pattern, replacement}
 use Rattle.rows.specs.declared.Fault.the-variants.{Long}
 use Rattle.rows.specs.declared.Refusal.{Refusal}
 use Rattle.rows.specs.declared.Refusal.the-variants.{Row, Pattern, Replacement}
 use Rattle.rows.specs.declared.Check.{Check}
 use Rattle.rows.specs.declared.Check.the-variants.{Fine, Refused}
-use Rattle.rows.proofs.Passing.{Fits, both-fine, sizes-fits}
+use Rattle.rows.proofs.Passing.{Fits, both-fine, then-assoc, sizes-fits}
 use Rattle.c_lent.specs.Reading.{sizesCheck}
-use Rattle.c_lent.proofs.Checks.{then-assoc}
 
--- Refusals 1 to 6, and 7 to 10 after them.
+-- Refusals 1 to 6, and 7 to 10 and 62 after them.
 module _ (a : Alphabet) (P : Programme) (n : ℕ) where
   abbrev rest : Check
-  rest = symbols Row (a .arities) (front n P .row) then fresh Row (a .arities) (front n P .row) (P .table)
+  rest =
+      symbols Row (a .arities) (front n P .row)
+      then fresh Row (a .arities) (front n P .row) (P .table)
+      then classed Row (a .arities) (front n P .row) (P .classes)
 
   sizes-alphabet : sizesCheck a n (room P) ≡ Fine → alphabet a ≡ Fine
   sizes-alphabet e = both-fine (alphabet a) (sizes Row n (room P)) e .0

@@ -9,13 +9,16 @@ use lib.ListN.{length, take, length-take}
 use Rattle.rows.specs.Programme.{Alphabet, Programme, alphabetOf, programme, room}
 use Rattle.rows.specs.Row.{pick}
 use Rattle.rows.specs.Parse.{table}
+use Rattle.rows.specs.Classes.{classes}
 use Rattle.rows.specs.Buffers.{written, after}
-use Rattle.rows.specs.Refusals.{_then_, alphabet, sizes, symbols, differs, fresh, kept, given, pattern, output}
-use Rattle.rows.specs.declared.Kept.the-variants.{Stale}
+use Rattle.rows.specs.Refusals.{_then_, alphabet, sizes, symbols, differs, fresh, classed, kept, given, pattern, output}
+use Rattle.rows.specs.declared.Kept.the-variants.{Stale, Misclassed}
+use Rattle.rows.specs.declared.Refusal.{Refusal}
 use Rattle.rows.specs.declared.Refusal.the-variants.{Row}
 use Rattle.rows.specs.declared.Check.{Check}
 use Rattle.rows.specs.declared.Check.the-variants.{Refused}
 use Rattle.rows.proofs.Entry.{length-table}
+use Rattle.rows.proofs.Classes.{class-of-row}
 use Rattle.rows.proofs.Passing.{Fits}
 use Rattle.checks.specs.Checks.{searchCheck, findCheck}
 use Rattle.sparrowhem.specs.Search.{found, Finds}
@@ -25,41 +28,46 @@ use Rattle.c_lent.specs.declared.Answer.{Answer}
 use Rattle.c_lent.specs.Calls.{FoundBytes}
 use Rattle.c_copied.proofs.Checks.{sizes-fine}
 
--- entries behind the row's are not looked at
-differs-cut : (at k : ℕ) (l t : List ℕ) → length l ≤ k → differs Row at l (take k t) ≡ differs Row at l t
+-- what stands behind the row's length is not looked at
+differs-cut : (wrong : ℕ → Refusal) (at k : ℕ) (l t : List ℕ) → length l ≤ k → differs wrong at l (take k t) ≡ differs wrong at l t
 unfolding differs
-differs-cut at k [] t h = refl
-differs-cut at zero (e ∷ l) t h = absurd (omega arith)
-differs-cut at (suc k) (e ∷ l) [] h = refl
-differs-cut at (suc k) (e ∷ l) (x ∷ t) h =
-    ap (λ (c : Check). pick (eqb x e) c (Refused (Row (Stale at)))) (differs-cut (at + 1) k l t (omega arith))
+differs-cut wrong at k [] t h = refl
+differs-cut wrong at zero (e ∷ l) t h = absurd (omega arith)
+differs-cut wrong at (suc k) (e ∷ l) [] h = refl
+differs-cut wrong at (suc k) (e ∷ l) (x ∷ t) h =
+    ap (λ (c : Check). pick (eqb x e) c (Refused (wrong at))) (differs-cut wrong (at + 1) k l t (omega arith))
 
-fresh-cut : (A w t : List ℕ) (k : ℕ) → length w ≤ k → fresh Row A w (take k t) ≡ fresh Row A w t
-unfolding fresh
-fresh-cut A w t k h = differs-cut 0 k (table A w) t (omega (arith, length-table A w))
+-- the check of a table, and of classes, by a copy
+copy-differs : (wrong : ℕ → Refusal) (l t u : List ℕ) (n : ℕ) → length l ≤ n → take n u ≡ take n t → differs wrong 0 l u ≡ differs wrong 0 l t
+copy-differs wrong l t u n short e =
+    sym (differs-cut wrong 0 n l u short) ∙ ap (differs wrong 0 l) e ∙ differs-cut wrong 0 n l t short
 
--- refusals 7 to 10, by copies
-pub ends-cut : (A w t x u : List ℕ) (n : ℕ) → take n x ≡ take n w → take n u ≡ take n t
-    → symbols Row A (take n x) then fresh Row A (take n x) u ≡ symbols Row A (take n w) then fresh Row A (take n w) t
-ends-cut A w t x u n row-is table-is =
-    let short : length (take n w) ≤ n = simp length-take (omega arith) in
-    ap (λ (l : List ℕ). symbols Row A l then fresh Row A l u) row-is
-    ∙ ap (λ (c : Check). symbols Row A (take n w) then c)
-    (sym (fresh-cut A (take n w) u n short) ∙ ap (fresh Row A (take n w)) table-is ∙ fresh-cut A (take n w) t n short)
+-- refusals 7 to 10 and 62, by copies
+pub lists-cut : (A : List ℕ) (P : Programme) (x u c : List ℕ) (n : ℕ) → take n x ≡ take n (P .row) → take n u ≡ take n (P .table) → take n c ≡ take n (P .classes)
+    → symbols Row A (take n x) then fresh Row A (take n x) u then classed Row A (take n x) c
+    ≡ symbols Row A (take n (P .row)) then fresh Row A (take n (P .row)) (P .table) then classed Row A (take n (P .row)) (P .classes)
+unfolding fresh classed
+lists-cut A P x u c n row-is table-is classes-are =
+    let w : List ℕ = take n (P .row) in
+    let short : length w ≤ n = simp length-take (omega arith) in
+    ap (λ (l : List ℕ). symbols Row A l then fresh Row A l u then classed Row A l c) row-is
+    ∙ ap₂ (λ (e k : Check). symbols Row A w then e then k)
+    (copy-differs (λ k. Row (Stale k)) (table A w) (P .table) u n (omega (arith, length-table A w)) table-is)
+    (copy-differs (λ k. Row (Misclassed k)) (classes A w) (P .classes) c n (omega (arith, class-of-row A w .0)) classes-are)
 
--- Find, with a copy of the table that goes as far as the row.
-module _ (a : Alphabet) (P : Programme) (q t : List ℕ) (whole : Fits (length (P .row)) (room P)) (cut : Fits (length (P .row)) (room (programme (P .row) t)))
-    (table-is : take (length (P .row)) t ≡ take (length (P .row)) (P .table)) where
+-- Find, with copies of table and classes that go as far as the row.
+module _ (a : Alphabet) (P : Programme) (q t c : List ℕ) (whole : Fits (length (P .row)) (room P)) (cut : Fits (length (P .row)) (room (programme (P .row) t c)))
+    (table-is : take (length (P .row)) t ≡ take (length (P .row)) (P .table)) (classes-are : take (length (P .row)) c ≡ take (length (P .row)) (P .classes)) where
   abbrev copy : Programme
-  copy = programme (P .row) t
+  copy = programme (P .row) t c
 
   search-cut : searchCheck a copy q ≡ searchCheck a P q
   unfolding searchCheck given kept
   search-cut =
       let n : ℕ = length (P .row) in
-      ap₂ (λ (s c : Check). (alphabet a then s then c) then pattern (a .arities) q)
+      ap₂ (λ (s k : Check). (alphabet a then s then k) then pattern (a .arities) q)
       (sizes-fine n (room copy) cut ∙ sym (sizes-fine n (room P) whole))
-      (ends-cut (a .arities) (P .row) (P .table) (P .row) t n refl table-is)
+      (lists-cut (a .arities) P (P .row) t c n refl table-is classes-are)
 
   finds-cut : (y : List ℕ) (r : Found) (y′ : List ℕ) → Finds a copy q y r y′ → Finds a P q y r y′
   unfolding findCheck

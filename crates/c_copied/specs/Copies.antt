@@ -11,15 +11,17 @@ use Rattle.rows.specs.Programme.{Programme}
 abbrev pub fair : ℕ
 fair = 1152
 
--- `w` and `t` begin with the first n numbers of the row and of its table
-pub record Copied (P : Programme) (n : ℕ) (w t : List ℕ) : Type 0 where
+-- `w`, `t` and `c` begin with the first n numbers of the row, of its table and of its classes
+pub record Copied (P : Programme) (n : ℕ) (w t c : List ℕ) : Type 0 where
   pub row : take n w ≡ take n (P .row)
   pub table : take n t ≡ take n (P .table)
+  pub classes : take n c ≡ take n (P .classes)
 
--- rooms for a row of n numbers in and beside which one of m numbers is put: for the row and its table once it stands there, for the
--- m numbers themselves, and for the ends of either
-pub record Rooms (n m : ℕ) (w t v room : List ℕ) : Type 0 where
+-- rooms for a row of n numbers in and beside which one of m numbers is put: for the row, its table and its classes once it stands there, for
+-- the m numbers themselves, and for the ends of either
+pub record Rooms (n m : ℕ) (w t c v room : List ℕ) : Type 0 where
   pub row : min rowMost (n + m) ≤ length w
   pub table : min rowMost (n + m) ≤ length t
+  pub classes : min rowMost (n + m) ≤ length c
   pub replacement : min rowMost m ≤ length v
   pub ends : min rowMost (max n m) ≤ length room

@@ -34,27 +34,30 @@ fn longer(a: usize, b: usize) -> usize
     if a < b { b } else { a }
 }
 
-// The replacement in the copies `w` and `t`, which begin with the row and its table. Their bytes are written back as far as one of
-// the two rows goes, the old one or the new.
+// The replacement in the copies `w`, `t` and `c`, which begin with the row, its table and its classes. Their bytes are written back
+// as far as one of the two rows goes, the old one or the new.
 fn write_replaced(
     arities: &[u16],
     row: &mut [u8],
     table: &mut [u8],
+    classes: &mut [u8],
     n: usize,
     v: &[u16],
     p: usize,
     w: &mut [u16],
     t: &mut [u16],
+    c: &mut [u16],
     room: &mut [u16],
 ) -> Answer
-    requires { ⌜ replaceCheck (alphabetOf (now arities)) (numbersOf (lent (now row) (now table))) n (now v) p ≡ Fine ⌝ }
-    requires { ⌜ Copied (numbersOf (lent (now row) (now table))) n (now w) (now t) × Rooms n (length (now v)) (now w) (now t) (now v) (now room) ⌝ }
-    ensures { λ r. ⌜ ReplacedBytes (alphabetOf (now (arities .entry))) (lent (now (row .entry)) (now (table .entry))) n (now (v .entry)) p r (lent (now (row .exit)) (now (table .exit))) ⌝ }
+    requires { ⌜ replaceCheck (alphabetOf (now arities)) (numbersOf (lent (now row) (now table) (now classes))) n (now v) p ≡ Fine ⌝ }
+    requires { ⌜ Copied (numbersOf (lent (now row) (now table) (now classes))) n (now w) (now t) (now c) × Rooms n (length (now v)) (now w) (now t) (now c) (now v) (now room) ⌝ }
+    ensures { λ r. ⌜ ReplacedBytes (alphabetOf (now (arities .entry))) (lent (now (row .entry)) (now (table .entry)) (now (classes .entry))) n (now (v .entry)) p r (lent (now (row .exit)) (now (table .exit)) (now (classes .exit))) ⌝ }
 {
-    let length = edits::replace_beside(arities, w, t, n, v, p, room);
+    let length = edits::replace_beside(arities, w, t, c, n, v, p, room);
     let most = longer(n, length);
     wire::encode(&w[..most], row);
     wire::encode(&t[..most], table);
+    wire::encode(&c[..most], classes);
     Answer {
         refusal: 0,
         change: edits::change(length, n),
@@ -63,56 +66,73 @@ fn write_replaced(
     }
 }
 
-// The replacement is copied to `v` and checked, once row and table are found right.
+// The replacement is copied to `v` and checked, once row, table and classes are found right.
 fn replace_by(
     arities: &[u16],
     row: &mut [u8],
     table: &mut [u8],
+    classes: &mut [u8],
     n: usize,
     replacement: &[u8],
     p: usize,
     w: &mut [u16],
     t: &mut [u16],
+    c: &mut [u16],
     v: &mut [u16],
     room: &mut [u16],
 ) -> Answer
-    requires { ⌜ given (alphabetOf (now arities)) (numbersOf (lent (now row) (now table))) n ≡ Fine ⌝ }
-    requires { ⌜ Copied (numbersOf (lent (now row) (now table))) n (now w) (now t) × Rooms n (length (numbers (now replacement))) (now w) (now t) (now v) (now room) ⌝ }
-    ensures { λ r. ⌜ ReplacedBytes (alphabetOf (now (arities .entry))) (lent (now (row .entry)) (now (table .entry))) n (numbers (now (replacement .entry))) p r (lent (now (row .exit)) (now (table .exit))) ⌝ }
+    requires { ⌜ given (alphabetOf (now arities)) (numbersOf (lent (now row) (now table) (now classes))) n ≡ Fine ⌝ }
+    requires { ⌜ Copied (numbersOf (lent (now row) (now table) (now classes))) n (now w) (now t) (now c) × Rooms n (length (numbers (now replacement))) (now w) (now t) (now c) (now v) (now room) ⌝ }
+    ensures { λ r. ⌜ ReplacedBytes (alphabetOf (now (arities .entry))) (lent (now (row .entry)) (now (table .entry)) (now (classes .entry))) n (numbers (now (replacement .entry))) p r (lent (now (row .exit)) (now (table .exit)) (now (classes .exit))) ⌝ }
 {
     let m = wire::count(replacement);
     if rows::ROW_MOST < m {
         return c_lent::refusal_of(Refusal::Replacement(Fault::Long(m)));
     }
     wire::decode(replacement, m, v);
-    let places = rows::shorter(wire::count(row), wire::count(table));
+    let places = rows::shortest(wire::count(row), wire::count(table), wire::count(classes));
     match checks::check_replacement(arities, t, n, &v[..m], p, places) {
         Check::Refused(r) => c_lent::refusal_of(r),
-        Check::Fine => write_replaced(arities, row, table, n, &v[..m], p, w, t, room),
+        Check::Fine => write_replaced(arities, row, table, classes, n, &v[..m], p, w, t, c, room),
     }
 }
 
-// The copies `w` and `t` begin with the row and its table, and are checked. `v` and `room` are for the replacement and what the call
-// keeps beside them.
+// The copies `w`, `t` and `c` begin with the row, its table and its classes, and are checked. `v` and `room` are for the replacement
+// and what the call keeps beside them.
 fn replace_in(
     arities: &[u16],
     row: &mut [u8],
     table: &mut [u8],
+    classes: &mut [u8],
     n: usize,
     replacement: &[u8],
     p: usize,
     w: &mut [u16],
     t: &mut [u16],
+    c: &mut [u16],
     v: &mut [u16],
     room: &mut [u16],
 ) -> Answer
-    requires { ⌜ sizesCheck (alphabetOf (now arities)) n (places (numbersOf (lent (now row) (now table)))) ≡ Fine ⌝ }
-    requires { ⌜ Copied (numbersOf (lent (now row) (now table))) n (now w) (now t) × Rooms n (length (numbers (now replacement))) (now w) (now t) (now v) (now room) ⌝ }
-    ensures { λ r. ⌜ ReplacedBytes (alphabetOf (now (arities .entry))) (lent (now (row .entry)) (now (table .entry))) n (numbers (now (replacement .entry))) p r (lent (now (row .exit)) (now (table .exit))) ⌝ }
+    requires { ⌜ sizesCheck (alphabetOf (now arities)) n (places (numbersOf (lent (now row) (now table) (now classes)))) ≡ Fine ⌝ }
+    requires { ⌜ Copied (numbersOf (lent (now row) (now table) (now classes))) n (now w) (now t) (now c) × Rooms n (length (numbers (now replacement))) (now w) (now t) (now c) (now v) (now room) ⌝ }
+    ensures { λ r. ⌜ ReplacedBytes (alphabetOf (now (arities .entry))) (lent (now (row .entry)) (now (table .entry)) (now (classes .entry))) n (numbers (now (replacement .entry))) p r (lent (now (row .exit)) (now (table .exit)) (now (classes .exit))) ⌝ }
 {
-    match tables::check_beside(arities, &w[..n], &t[..n], room) {
+    match checks::check_beside(arities, &w[..n], &t[..n], &c[..n], room) {
         Keeping::Unsound(k) => c_lent::refusal_of(Refusal::Row(k)),
-        Keeping::Sound => replace_by(arities, row, table, n, replacement, p, w, t, v, room),
+        Keeping::Sound => replace_by(
+            arities,
+            row,
+            table,
+            classes,
+            n,
+            replacement,
+            p,
+            w,
+            t,
+            c,
+            v,
+            room,
+        ),
     }
 }
 
@@ -121,47 +141,54 @@ fn replace_long(
     arities: &[u16],
     row: &mut [u8],
     table: &mut [u8],
+    classes: &mut [u8],
     n: usize,
     replacement: &[u8],
     p: usize,
 ) -> Answer
-    requires { ⌜ sizesCheck (alphabetOf (now arities)) n (places (numbersOf (lent (now row) (now table)))) ≡ Fine ⌝ }
-    ensures { λ r. ⌜ ReplacedBytes (alphabetOf (now (arities .entry))) (lent (now (row .entry)) (now (table .entry))) n (numbers (now (replacement .entry))) p r (lent (now (row .exit)) (now (table .exit))) ⌝ }
+    requires { ⌜ sizesCheck (alphabetOf (now arities)) n (places (numbersOf (lent (now row) (now table) (now classes)))) ≡ Fine ⌝ }
+    ensures { λ r. ⌜ ReplacedBytes (alphabetOf (now (arities .entry))) (lent (now (row .entry)) (now (table .entry)) (now (classes .entry))) n (numbers (now (replacement .entry))) p r (lent (now (row .exit)) (now (table .exit)) (now (classes .exit))) ⌝ }
 {
     let m = rows::shorter(wire::count(replacement), rows::ROW_MOST);
     if n + m <= FAIR {
         let mut w = fair_room();
         let mut t = fair_room();
+        let mut c = fair_room();
         let mut v = fair_room();
         let mut room = fair_room();
-        crate::copies::copy_kept(row, table, n, &mut w, &mut t);
+        crate::copies::copy_kept(row, table, classes, n, &mut w, &mut t, &mut c);
         return replace_in(
             arities,
             row,
             table,
+            classes,
             n,
             replacement,
             p,
             &mut w,
             &mut t,
+            &mut c,
             &mut v,
             &mut room,
         );
     }
     let mut w = tables::long_room();
     let mut t = tables::long_room();
+    let mut c = tables::long_room();
     let mut v = tables::long_room();
     let mut room = tables::long_room();
-    crate::copies::copy_kept(row, table, n, &mut w, &mut t);
+    crate::copies::copy_kept(row, table, classes, n, &mut w, &mut t, &mut c);
     replace_in(
         arities,
         row,
         table,
+        classes,
         n,
         replacement,
         p,
         &mut w,
         &mut t,
+        &mut c,
         &mut v,
         &mut room,
     )
@@ -172,34 +199,38 @@ fn replace_sized(
     arities: &[u16],
     row: &mut [u8],
     table: &mut [u8],
+    classes: &mut [u8],
     n: usize,
     replacement: &[u8],
     p: usize,
 ) -> Answer
-    requires { ⌜ sizesCheck (alphabetOf (now arities)) n (places (numbersOf (lent (now row) (now table)))) ≡ Fine ⌝ }
-    ensures { λ r. ⌜ ReplacedBytes (alphabetOf (now (arities .entry))) (lent (now (row .entry)) (now (table .entry))) n (numbers (now (replacement .entry))) p r (lent (now (row .exit)) (now (table .exit))) ⌝ }
+    requires { ⌜ sizesCheck (alphabetOf (now arities)) n (places (numbersOf (lent (now row) (now table) (now classes)))) ≡ Fine ⌝ }
+    ensures { λ r. ⌜ ReplacedBytes (alphabetOf (now (arities .entry))) (lent (now (row .entry)) (now (table .entry)) (now (classes .entry))) n (numbers (now (replacement .entry))) p r (lent (now (row .exit)) (now (table .exit)) (now (classes .exit))) ⌝ }
 {
     let m = wire::count(replacement);
     if rows::ROW_MOST < m {
-        return replace_long(arities, row, table, n, replacement, p);
+        return replace_long(arities, row, table, classes, n, replacement, p);
     }
     if tables::SHORT < n + m {
-        return replace_long(arities, row, table, n, replacement, p);
+        return replace_long(arities, row, table, classes, n, replacement, p);
     }
     let mut w = tables::short_room();
     let mut t = tables::short_room();
+    let mut c = tables::short_room();
     let mut v = tables::short_room();
     let mut room = tables::short_room();
-    crate::copies::copy_kept(row, table, n, &mut w, &mut t);
+    crate::copies::copy_kept(row, table, classes, n, &mut w, &mut t, &mut c);
     replace_in(
         arities,
         row,
         table,
+        classes,
         n,
         replacement,
         p,
         &mut w,
         &mut t,
+        &mut c,
         &mut v,
         &mut room,
     )
@@ -210,38 +241,58 @@ fn replace_under(
     arities: &[u8],
     row: &mut [u8],
     table: &mut [u8],
+    classes: &mut [u8],
     n: usize,
     replacement: &[u8],
     p: usize,
     a: &mut [u16],
 ) -> Answer
     requires { ⌜ min alphabetMost (length (numbers (now arities))) ≤ length (now a) ⌝ }
-    ensures { λ r. ⌜ ReplacedBytes (alphabetOf (numbers (now (arities .entry)))) (lent (now (row .entry)) (now (table .entry))) n (numbers (now (replacement .entry))) p r (lent (now (row .exit)) (now (table .exit))) ⌝ }
+    ensures { λ r. ⌜ ReplacedBytes (alphabetOf (numbers (now (arities .entry)))) (lent (now (row .entry)) (now (table .entry)) (now (classes .entry))) n (numbers (now (replacement .entry))) p r (lent (now (row .exit)) (now (table .exit)) (now (classes .exit))) ⌝ }
 {
     let k = wire::count(arities);
-    let places = rows::shorter(wire::count(row), wire::count(table));
+    let places = rows::shortest(wire::count(row), wire::count(table), wire::count(classes));
     match c_lent::read_sizes(arities, a, n, places) {
         Check::Refused(r) => c_lent::refusal_of(r),
-        Check::Fine => replace_sized(&a[..k], row, table, n, replacement, p),
+        Check::Fine => replace_sized(&a[..k], row, table, classes, n, replacement, p),
     }
 }
 
-// Replace: row and table with the subtree at the position replaced, both in place; or the first refusal, which writes
+// Replace: row, table and classes with the subtree at the position replaced, all in place; or the first refusal, which writes
 // nothing. Nothing is copied before its size is known to be within the limits.
 pub fn replace(
     arities: &[u8],
     row: &mut [u8],
     table: &mut [u8],
+    classes: &mut [u8],
     n: usize,
     replacement: &[u8],
     position: usize,
 ) -> Answer
-    ensures { λ r. ⌜ ReplacedBytes (alphabetOf (numbers (now (arities .entry)))) (lent (now (row .entry)) (now (table .entry))) n (numbers (now (replacement .entry))) position r (lent (now (row .exit)) (now (table .exit))) ⌝ }
+    ensures { λ r. ⌜ ReplacedBytes (alphabetOf (numbers (now (arities .entry)))) (lent (now (row .entry)) (now (table .entry)) (now (classes .entry))) n (numbers (now (replacement .entry))) position r (lent (now (row .exit)) (now (table .exit)) (now (classes .exit))) ⌝ }
 {
     if wire::count(arities) <= c_lent::SMALL {
         let mut a = c_lent::small_room();
-        return replace_under(arities, row, table, n, replacement, position, &mut a);
+        return replace_under(
+            arities,
+            row,
+            table,
+            classes,
+            n,
+            replacement,
+            position,
+            &mut a,
+        );
     }
     let mut a = c_lent::alphabet_room();
-    replace_under(arities, row, table, n, replacement, position, &mut a)
+    replace_under(
+        arities,
+        row,
+        table,
+        classes,
+        n,
+        replacement,
+        position,
+        &mut a,
+    )
 }

@@ -30,14 +30,15 @@ fn pattern_room() -> [u16; rows::PATTERN_MOST]
 fn write_found(
     row: &[u16],
     table: &[u16],
+    classes: &[u16],
     pattern: &[u16],
     room: &mut [u16],
     out: &mut [u8],
 ) -> Answer
-    requires { ⌜ Searchable (programme (now row) (now table)) (now pattern) × (length (now row) ≤ length (now room)) ⌝ }
-    ensures { λ r. ⌜ ((a : Alphabet) → searchCheck a (programme (now (row .entry)) (now (table .entry))) (now (pattern .entry)) ≡ Fine → FoundBytes a (programme (now (row .entry)) (now (table .entry))) (now (pattern .entry)) (now (out .entry)) r (now (out .exit))) ⌝ }
+    requires { ⌜ Searchable (programme (now row) (now table) (now classes)) (now pattern) × (length (now row) ≤ length (now room)) ⌝ }
+    ensures { λ r. ⌜ ((a : Alphabet) → searchCheck a (programme (now (row .entry)) (now (table .entry)) (now (classes .entry))) (now (pattern .entry)) ≡ Fine → FoundBytes a (programme (now (row .entry)) (now (table .entry)) (now (classes .entry))) (now (pattern .entry)) (now (out .entry)) r (now (out .exit))) ⌝ }
 {
-    let count = searches::write_matches(row, table, pattern, room);
+    let count = searches::write_matches(row, table, classes, pattern, room);
     if wire::count(out) < count {
         return c_lent::refusal_of(Refusal::OutputShort(count));
     }
@@ -50,18 +51,19 @@ fn write_found(
     }
 }
 
-// The pattern is copied to `q` and checked, once row and table are found right.
+// The pattern is copied to `q` and checked, once row, table and classes are found right.
 fn find_pattern(
     arities: &[u16],
     row: &[u16],
     table: &[u16],
+    classes: &[u16],
     pattern: &[u8],
     q: &mut [u16],
     room: &mut [u16],
     out: &mut [u8],
 ) -> Answer
-    requires { ⌜ (given (alphabetOf (now arities)) (programme (now row) (now table)) (length (now row)) ≡ Fine) × (length (now row) ≤ length (now room)) × (patternMost ≤ length (now q)) ⌝ }
-    ensures { λ r. ⌜ FoundBytes (alphabetOf (now (arities .entry))) (programme (now (row .entry)) (now (table .entry))) (numbers (now (pattern .entry))) (now (out .entry)) r (now (out .exit)) ⌝ }
+    requires { ⌜ (given (alphabetOf (now arities)) (programme (now row) (now table) (now classes)) (length (now row)) ≡ Fine) × (length (now row) ≤ length (now room)) × (patternMost ≤ length (now q)) ⌝ }
+    ensures { λ r. ⌜ FoundBytes (alphabetOf (now (arities .entry))) (programme (now (row .entry)) (now (table .entry)) (now (classes .entry))) (numbers (now (pattern .entry))) (now (out .entry)) r (now (out .exit)) ⌝ }
 {
     let m = wire::count(pattern);
     if rows::PATTERN_MOST < m {
@@ -70,88 +72,169 @@ fn find_pattern(
     wire::decode(pattern, m, q);
     match patterns::check_pattern(arities, &q[..m]) {
         Check::Refused(r) => c_lent::refusal_of(r),
-        Check::Fine => write_found(row, table, &q[..m], room, out),
+        Check::Fine => write_found(row, table, classes, &q[..m], room, out),
     }
 }
 
-// Row and table, within the sizes, are checked.
+// Row, table and classes, within the sizes, are checked.
 fn find_copied(
     arities: &[u16],
     row: &[u16],
     table: &[u16],
+    classes: &[u16],
     pattern: &[u8],
     q: &mut [u16],
     room: &mut [u16],
     out: &mut [u8],
 ) -> Answer
-    requires { ⌜ (sizesCheck (alphabetOf (now arities)) (length (now row)) (places (programme (now row) (now table))) ≡ Fine) × (length (now row) ≤ length (now room)) × (patternMost ≤ length (now q)) ⌝ }
-    ensures { λ r. ⌜ FoundBytes (alphabetOf (now (arities .entry))) (programme (now (row .entry)) (now (table .entry))) (numbers (now (pattern .entry))) (now (out .entry)) r (now (out .exit)) ⌝ }
+    requires { ⌜ (sizesCheck (alphabetOf (now arities)) (length (now row)) (places (programme (now row) (now table) (now classes))) ≡ Fine) × (length (now row) ≤ length (now room)) × (patternMost ≤ length (now q)) ⌝ }
+    ensures { λ r. ⌜ FoundBytes (alphabetOf (now (arities .entry))) (programme (now (row .entry)) (now (table .entry)) (now (classes .entry))) (numbers (now (pattern .entry))) (now (out .entry)) r (now (out .exit)) ⌝ }
 {
-    match tables::check_beside(arities, row, table, room) {
+    match checks::check_beside(arities, row, table, classes, room) {
         Keeping::Unsound(k) => c_lent::refusal_of(Refusal::Row(k)),
-        Keeping::Sound => find_pattern(arities, row, table, pattern, q, room, out),
+        Keeping::Sound => find_pattern(arities, row, table, classes, pattern, q, room, out),
     }
 }
 
-// The copies `w` and `t` begin with the row and its table. `q` and `room` are for the pattern and what the call keeps beside them.
+// The copies `w`, `t` and `c` begin with the row, its table and its classes. `q` and `room` are for the pattern and what the call
+// keeps beside them.
 fn find_in(
     arities: &[u16],
     row: &[u8],
     table: &[u8],
+    classes: &[u8],
     pattern: &[u8],
     out: &mut [u8],
     w: &[u16],
     t: &[u16],
+    c: &[u16],
     q: &mut [u16],
     room: &mut [u16],
 ) -> Answer
-    requires { ⌜ sizesCheck (alphabetOf (now arities)) (length (numbers (now row))) (places (numbersOf (lent (now row) (now table)))) ≡ Fine ⌝ }
-    requires { ⌜ Copied (numbersOf (lent (now row) (now table))) (length (numbers (now row))) (now w) (now t) × (length (numbers (now row)) ≤ length (now room)) × (patternMost ≤ length (now q)) ⌝ }
-    ensures { λ r. ⌜ FoundBytes (alphabetOf (now (arities .entry))) (numbersOf (lent (now (row .entry)) (now (table .entry)))) (numbers (now (pattern .entry))) (now (out .entry)) r (now (out .exit)) ⌝ }
+    requires { ⌜ sizesCheck (alphabetOf (now arities)) (length (numbers (now row))) (places (numbersOf (lent (now row) (now table) (now classes)))) ≡ Fine ⌝ }
+    requires { ⌜ Copied (numbersOf (lent (now row) (now table) (now classes))) (length (numbers (now row))) (now w) (now t) (now c) × (length (numbers (now row)) ≤ length (now room)) × (patternMost ≤ length (now q)) ⌝ }
+    ensures { λ r. ⌜ FoundBytes (alphabetOf (now (arities .entry))) (numbersOf (lent (now (row .entry)) (now (table .entry)) (now (classes .entry)))) (numbers (now (pattern .entry))) (now (out .entry)) r (now (out .exit)) ⌝ }
 {
     let n = wire::count(row);
-    find_copied(arities, &w[..n], &t[..n], pattern, q, room, out)
+    find_copied(arities, &w[..n], &t[..n], &c[..n], pattern, q, room, out)
 }
 
 // Rooms for a row of fair length, or of any.
-fn find_long(arities: &[u16], row: &[u8], table: &[u8], pattern: &[u8], out: &mut [u8]) -> Answer
-    requires { ⌜ sizesCheck (alphabetOf (now arities)) (length (numbers (now row))) (places (numbersOf (lent (now row) (now table)))) ≡ Fine ⌝ }
-    ensures { λ r. ⌜ FoundBytes (alphabetOf (now (arities .entry))) (numbersOf (lent (now (row .entry)) (now (table .entry)))) (numbers (now (pattern .entry))) (now (out .entry)) r (now (out .exit)) ⌝ }
+fn find_long(
+    arities: &[u16],
+    row: &[u8],
+    table: &[u8],
+    classes: &[u8],
+    pattern: &[u8],
+    out: &mut [u8],
+) -> Answer
+    requires { ⌜ sizesCheck (alphabetOf (now arities)) (length (numbers (now row))) (places (numbersOf (lent (now row) (now table) (now classes)))) ≡ Fine ⌝ }
+    ensures { λ r. ⌜ FoundBytes (alphabetOf (now (arities .entry))) (numbersOf (lent (now (row .entry)) (now (table .entry)) (now (classes .entry)))) (numbers (now (pattern .entry))) (now (out .entry)) r (now (out .exit)) ⌝ }
 {
     if wire::count(row) <= tables::FAIR {
         let mut w = tables::fair_room();
         let mut t = tables::fair_room();
+        let mut c = tables::fair_room();
         let mut q = pattern_room();
         let mut room = tables::fair_room();
-        crate::copies::copy_kept(row, table, wire::count(row), &mut w, &mut t);
-        return find_in(arities, row, table, pattern, out, &w, &t, &mut q, &mut room);
+        crate::copies::copy_kept(
+            row,
+            table,
+            classes,
+            wire::count(row),
+            &mut w,
+            &mut t,
+            &mut c,
+        );
+        return find_in(
+            arities,
+            row,
+            table,
+            classes,
+            pattern,
+            out,
+            &w,
+            &t,
+            &c,
+            &mut q,
+            &mut room,
+        );
     }
     let mut w = tables::long_room();
     let mut t = tables::long_room();
+    let mut c = tables::long_room();
     let mut q = pattern_room();
     let mut room = tables::long_room();
-    crate::copies::copy_kept(row, table, wire::count(row), &mut w, &mut t);
-    find_in(arities, row, table, pattern, out, &w, &t, &mut q, &mut room)
+    crate::copies::copy_kept(
+        row,
+        table,
+        classes,
+        wire::count(row),
+        &mut w,
+        &mut t,
+        &mut c,
+    );
+    find_in(
+        arities,
+        row,
+        table,
+        classes,
+        pattern,
+        out,
+        &w,
+        &t,
+        &c,
+        &mut q,
+        &mut room,
+    )
 }
 
 // Rooms for a short row. A pattern over its limit is refused in any room: with that, the function that makes larger rooms is called
 // from two places, and the compiler keeps its rooms out of the stack of a call on a short row.
-fn find_sized(arities: &[u16], row: &[u8], table: &[u8], pattern: &[u8], out: &mut [u8]) -> Answer
-    requires { ⌜ sizesCheck (alphabetOf (now arities)) (length (numbers (now row))) (places (numbersOf (lent (now row) (now table)))) ≡ Fine ⌝ }
-    ensures { λ r. ⌜ FoundBytes (alphabetOf (now (arities .entry))) (numbersOf (lent (now (row .entry)) (now (table .entry)))) (numbers (now (pattern .entry))) (now (out .entry)) r (now (out .exit)) ⌝ }
+fn find_sized(
+    arities: &[u16],
+    row: &[u8],
+    table: &[u8],
+    classes: &[u8],
+    pattern: &[u8],
+    out: &mut [u8],
+) -> Answer
+    requires { ⌜ sizesCheck (alphabetOf (now arities)) (length (numbers (now row))) (places (numbersOf (lent (now row) (now table) (now classes)))) ≡ Fine ⌝ }
+    ensures { λ r. ⌜ FoundBytes (alphabetOf (now (arities .entry))) (numbersOf (lent (now (row .entry)) (now (table .entry)) (now (classes .entry)))) (numbers (now (pattern .entry))) (now (out .entry)) r (now (out .exit)) ⌝ }
 {
     if rows::PATTERN_MOST < wire::count(pattern) {
-        return find_long(arities, row, table, pattern, out);
+        return find_long(arities, row, table, classes, pattern, out);
     }
     if tables::SHORT < wire::count(row) {
-        return find_long(arities, row, table, pattern, out);
+        return find_long(arities, row, table, classes, pattern, out);
     }
     let mut w = tables::short_room();
     let mut t = tables::short_room();
+    let mut c = tables::short_room();
     let mut q = pattern_room();
     let mut room = tables::short_room();
-    crate::copies::copy_kept(row, table, wire::count(row), &mut w, &mut t);
-    find_in(arities, row, table, pattern, out, &w, &t, &mut q, &mut room)
+    crate::copies::copy_kept(
+        row,
+        table,
+        classes,
+        wire::count(row),
+        &mut w,
+        &mut t,
+        &mut c,
+    );
+    find_in(
+        arities,
+        row,
+        table,
+        classes,
+        pattern,
+        out,
+        &w,
+        &t,
+        &c,
+        &mut q,
+        &mut room,
+    )
 }
 
 // The alphabet is read to `a`, a room that is lent for it.
@@ -159,31 +242,39 @@ fn find_under(
     arities: &[u8],
     row: &[u8],
     table: &[u8],
+    classes: &[u8],
     pattern: &[u8],
     out: &mut [u8],
     a: &mut [u16],
 ) -> Answer
     requires { ⌜ min alphabetMost (length (numbers (now arities))) ≤ length (now a) ⌝ }
-    ensures { λ r. ⌜ FoundBytes (alphabetOf (numbers (now (arities .entry)))) (numbersOf (lent (now (row .entry)) (now (table .entry)))) (numbers (now (pattern .entry))) (now (out .entry)) r (now (out .exit)) ⌝ }
+    ensures { λ r. ⌜ FoundBytes (alphabetOf (numbers (now (arities .entry)))) (numbersOf (lent (now (row .entry)) (now (table .entry)) (now (classes .entry)))) (numbers (now (pattern .entry))) (now (out .entry)) r (now (out .exit)) ⌝ }
 {
     let k = wire::count(arities);
     let n = wire::count(row);
-    let places = rows::shorter(n, wire::count(table));
+    let places = rows::shortest(n, wire::count(table), wire::count(classes));
     match c_lent::read_sizes(arities, a, n, places) {
         Check::Refused(r) => c_lent::refusal_of(r),
-        Check::Fine => find_sized(&a[..k], row, table, pattern, out),
+        Check::Fine => find_sized(&a[..k], row, table, classes, pattern, out),
     }
 }
 
 // Find: the bytes of the matches' positions at the front of `out`, later bytes stay; or the first refusal, which writes nothing.
 // Nothing is copied before its size is known to be within the limits.
-pub fn find(arities: &[u8], row: &[u8], table: &[u8], pattern: &[u8], out: &mut [u8]) -> Answer
-    ensures { λ r. ⌜ FoundBytes (alphabetOf (numbers (now (arities .entry)))) (numbersOf (lent (now (row .entry)) (now (table .entry)))) (numbers (now (pattern .entry))) (now (out .entry)) r (now (out .exit)) ⌝ }
+pub fn find(
+    arities: &[u8],
+    row: &[u8],
+    table: &[u8],
+    classes: &[u8],
+    pattern: &[u8],
+    out: &mut [u8],
+) -> Answer
+    ensures { λ r. ⌜ FoundBytes (alphabetOf (numbers (now (arities .entry)))) (numbersOf (lent (now (row .entry)) (now (table .entry)) (now (classes .entry)))) (numbers (now (pattern .entry))) (now (out .entry)) r (now (out .exit)) ⌝ }
 {
     if wire::count(arities) <= c_lent::SMALL {
         let mut a = c_lent::small_room();
-        return find_under(arities, row, table, pattern, out, &mut a);
+        return find_under(arities, row, table, classes, pattern, out, &mut a);
     }
     let mut a = c_lent::alphabet_room();
-    find_under(arities, row, table, pattern, out, &mut a)
+    find_under(arities, row, table, classes, pattern, out, &mut a)
 }

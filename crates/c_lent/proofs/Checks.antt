@@ -1,7 +1,7 @@
 -- The order of the checks.
 -- Assumes nothing.
 use Prim.Native.Nat.{ℕ, _≤_}
-use mathlib.Core.Path.{_≡_, refl, sym, ap, _∙_}
+use mathlib.Core.Path.{_≡_, sym, ap, _∙_}
 use lib.ListN.{length}
 use Rattle.rows.specs.Limits.{rowMost}
 use Rattle.rows.specs.Programme.{Alphabet, Programme, room}
@@ -10,13 +10,9 @@ use Rattle.rows.specs.declared.Refusal.{Refusal}
 use Rattle.rows.specs.declared.Refusal.the-variants.{Row}
 use Rattle.rows.specs.declared.Check.{Check}
 use Rattle.rows.specs.declared.Check.the-variants.{Fine, Refused}
-use Rattle.rows.proofs.Passing.{both-fine, sizes-fits}
+use Rattle.rows.proofs.Passing.{both-fine, then-assoc, sizes-fits}
 use Rattle.checks.specs.Checks.{buildCheck}
 use Rattle.c_lent.specs.Reading.{sizesCheck}
-
-pub then-assoc : (a b c : Check) → (a then b) then c ≡ a then b then c
-then-assoc Fine b c = refl
-then-assoc (Refused r) b c = refl
 
 -- Build, after refusals 1 to 6: it goes on with 7 to 9, on a row of at most 16,384.
 module _ (a : Alphabet) (P : Programme) where

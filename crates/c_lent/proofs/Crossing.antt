@@ -8,15 +8,15 @@ use Rattle.rows.specs.declared.Fault.the-variants.{Empty, Long, Stray, Early, E
 use Rattle.rows.specs.declared.Arities.{Arities as Alphabet}
 use Rattle.rows.specs.declared.Arities.the-variants.{Count, Over, NoLeaf}
 use Rattle.rows.specs.declared.Kept.{Kept}
-use Rattle.rows.specs.declared.Kept.the-variants.{Misread, Short, Stale}
+use Rattle.rows.specs.declared.Kept.the-variants.{Misread, Short, Stale, Misclassed}
 use Rattle.rows.specs.declared.Text.{Text}
 use Rattle.rows.specs.declared.Text.the-variants.{Line, Bytes}
 use Rattle.rows.specs.declared.Refusal.{Refusal}
 use Rattle.rows.specs.declared.Refusal.the-variants.{Arities, Row, OnRecord, Pattern, Replacement, Position, TooLong, OutputShort, Input}
 
--- the numbers of faults and refusals are from 1 to 61
+-- the numbers of faults and refusals are from 1 to 102
 abbrev pub Few : ℕ → Type 0
-Few n = (0 < n) × (n ≤ 61)
+Few n = (0 < n) × (n ≤ 102)
 
 alphabet-few : (f : Alphabet) → Few (alphabetNumber f)
 alphabet-few (Count n) = omega arith
@@ -30,10 +30,11 @@ fault-few (Stray p) = omega arith
 fault-few (Early n) = omega arith
 fault-few (Extra p) = omega arith
 
-kept-few : (k : Kept) → (0 < keptNumber k) × (keptNumber k ≤ 10)
-kept-few (Misread f) = fault-few f .0
+kept-few : (k : Kept) → (0 < keptNumber k) × (keptNumber k ≤ 62)
+kept-few (Misread f) = omega (arith, fault-few f .0)
 kept-few (Short n) = omega arith
 kept-few (Stale p) = omega arith
+kept-few (Misclassed p) = omega arith
 
 text-few : (f : Text) → Few (textNumber f)
 text-few (Line k) = omega arith

@@ -1,3 +1,4 @@
 pub mod Crossing
 pub mod Checks
 pub mod Lists
+pub mod Copies

@@ -1,4 +1,5 @@
-// Build on lent bytes. Beside them it keeps the alphabet, and the ends of the trees that stand side by side.
+// Build on lent bytes. Beside them it keeps the alphabet, the ends of the trees that stand side by side, and the copies from which
+// the classes are filled.
 ghost use mathlib.Core.Path.{_≡_};
 ghost use Prim.Native.Nat.{_≤_, min};
 ghost use lib.ListN.{length};
@@ -29,14 +30,15 @@ fn check_symbols(arities: &[u16], row: &[u8]) -> Check
 }
 
 // Build under an alphabet and sizes that are accepted.
-fn build_under(arities: &[u16], row: &[u8], table: &mut [u8]) -> Answer
-    requires { ⌜ sizesCheck (alphabetOf (now arities)) (length (numbers (now row))) (room (numbersOf (lent (now row) (now table)))) ≡ Fine ⌝ }
-    ensures { λ r. ⌜ BuiltBytes (alphabetOf (now (arities .entry))) (lent (now (row .entry)) (now (table .entry))) r (lent (now (row .entry)) (now (table .exit))) ⌝ }
+fn build_under(arities: &[u16], row: &[u8], table: &mut [u8], classes: &mut [u8]) -> Answer
+    requires { ⌜ sizesCheck (alphabetOf (now arities)) (length (numbers (now row))) (room (numbersOf (lent (now row) (now table) (now classes)))) ≡ Fine ⌝ }
+    ensures { λ r. ⌜ BuiltBytes (alphabetOf (now (arities .entry))) (lent (now (row .entry)) (now (table .entry)) (now (classes .entry))) r (lent (now (row .entry)) (now (table .exit)) (now (classes .exit))) ⌝ }
 {
     match check_symbols(arities, row) {
         Check::Refused(r) => crate::refusal_of(r),
         Check::Fine => {
             crate::fill::fill_table(arities, row, table);
+            crate::class_list::fill_classes(row, table, classes);
             Answer {
                 refusal: 0,
                 change: 0,
@@ -48,27 +50,34 @@ fn build_under(arities: &[u16], row: &[u8], table: &mut [u8]) -> Answer
 }
 
 // The alphabet is read to `a`, a room that is lent for it.
-fn build_in(arities: &[u8], row: &[u8], table: &mut [u8], a: &mut [u16]) -> Answer
+fn build_in(
+    arities: &[u8],
+    row: &[u8],
+    table: &mut [u8],
+    classes: &mut [u8],
+    a: &mut [u16],
+) -> Answer
     requires { ⌜ min alphabetMost (length (numbers (now arities))) ≤ length (now a) ⌝ }
-    ensures { λ r. ⌜ BuiltBytes (alphabetOf (numbers (now (arities .entry)))) (lent (now (row .entry)) (now (table .entry))) r (lent (now (row .entry)) (now (table .exit))) ⌝ }
+    ensures { λ r. ⌜ BuiltBytes (alphabetOf (numbers (now (arities .entry)))) (lent (now (row .entry)) (now (table .entry)) (now (classes .entry))) r (lent (now (row .entry)) (now (table .exit)) (now (classes .exit))) ⌝ }
 {
     let k = wire::count(arities);
     let n = wire::count(row);
-    let places = rows::shorter(n, wire::count(table));
+    let places = rows::shortest(n, wire::count(table), wire::count(classes));
     match crate::alphabet::read_sizes(arities, a, n, places) {
         Check::Refused(r) => crate::refusal_of(r),
-        Check::Fine => build_under(&a[..k], row, table),
+        Check::Fine => build_under(&a[..k], row, table, classes),
     }
 }
 
-// Build: the bytes of the row's table at the front of `table`, later bytes stay; or the first refusal, which writes nothing.
-pub fn build(arities: &[u8], row: &[u8], table: &mut [u8]) -> Answer
-    ensures { λ r. ⌜ BuiltBytes (alphabetOf (numbers (now (arities .entry)))) (lent (now (row .entry)) (now (table .entry))) r (lent (now (row .entry)) (now (table .exit))) ⌝ }
+// Build: the bytes of the row's table at the front of `table` and of its classes at the front of `classes`, later bytes stay; or
+// the first refusal, which writes nothing.
+pub fn build(arities: &[u8], row: &[u8], table: &mut [u8], classes: &mut [u8]) -> Answer
+    ensures { λ r. ⌜ BuiltBytes (alphabetOf (numbers (now (arities .entry)))) (lent (now (row .entry)) (now (table .entry)) (now (classes .entry))) r (lent (now (row .entry)) (now (table .exit)) (now (classes .exit))) ⌝ }
 {
     if wire::count(arities) <= crate::alphabet::SMALL {
         let mut a = crate::alphabet::small_room();
-        return build_in(arities, row, table, &mut a);
+        return build_in(arities, row, table, classes, &mut a);
     }
     let mut a = crate::alphabet::alphabet_room();
-    build_in(arities, row, table, &mut a)
+    build_in(arities, row, table, classes, &mut a)
 }

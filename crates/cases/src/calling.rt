@@ -1,5 +1,5 @@
 // The public calls, but for replace. Each takes its lists from a case, and prints what it answers and what it leaves in its
-// buffer, in which nothing is written before.
+// buffers, in which nothing is written before.
 use script::count;
 use script::list;
 use script::list_at;
@@ -15,10 +15,17 @@ use sparrowhem::Newest;
 use sparrowhem::Placed;
 use sparrowhem::Refusal;
 
-// build ARITIES | ROW | PLACES
-pub fn build(case: &[u16], table: &mut [u16]) {
-    checked(sparrowhem::build(list_at(case, 0), list_at(case, 1), table));
+// build ARITIES | ROW | PLACES | PLACES: those of the table, those of the classes.
+pub fn build(case: &[u16], classes: &mut [u16]) {
+    let mut table = script::unset_places();
+    let n = script::places(list_at(case, 2));
+    build_in(case, &mut table[..n], classes);
+}
+
+fn build_in(case: &[u16], table: &mut [u16], classes: &mut [u16]) {
+    checked(sparrowhem::build(list_at(case, 0), list_at(case, 1), table, classes));
     list(table);
+    list(classes);
 }
 
 // `refused`, number and place.
@@ -39,7 +46,7 @@ fn checked(answer: Check) {
     }
 }
 
-// subtree ARITIES | ROW | TABLE | POSITION
+// subtree ARITIES | ROW | TABLE | CLASSES | POSITION
 pub fn subtree(case: &[u16]) {
     subtree_answer(case);
     subtree_part(case);
@@ -50,7 +57,8 @@ fn subtree_answer(case: &[u16]) {
         list_at(case, 0),
         list_at(case, 1),
         list_at(case, 2),
-        number_at(case, 3),
+        list_at(case, 3),
+        number_at(case, 4),
     ));
 }
 
@@ -59,7 +67,8 @@ fn subtree_part(case: &[u16]) {
         list_at(case, 0),
         list_at(case, 1),
         list_at(case, 2),
-        number_at(case, 3),
+        list_at(case, 3),
+        number_at(case, 4),
     ));
 }
 
@@ -70,13 +79,14 @@ fn placed(answer: Placed) {
     }
 }
 
-// find ARITIES | ROW | TABLE | PATTERN | PLACES
+// find ARITIES | ROW | TABLE | CLASSES | PATTERN | PLACES
 pub fn find(case: &[u16], out: &mut [u16]) {
     found(sparrowhem::find(
         list_at(case, 0),
         list_at(case, 1),
         list_at(case, 2),
         list_at(case, 3),
+        list_at(case, 4),
         out,
     ));
     list(out);
@@ -89,14 +99,15 @@ pub fn found(answer: Found) {
     }
 }
 
-// variables ARITIES | ROW | TABLE | PATTERN | POSITION | PLACES
+// variables ARITIES | ROW | TABLE | CLASSES | PATTERN | POSITION | PLACES
 pub fn variables(case: &[u16], out: &mut [u16]) {
     bound(sparrowhem::variables(
         list_at(case, 0),
         list_at(case, 1),
         list_at(case, 2),
         list_at(case, 3),
-        number_at(case, 4),
+        list_at(case, 4),
+        number_at(case, 5),
         out,
     ));
     list(out);
@@ -114,7 +125,7 @@ fn bound(answer: Bound) {
     }
 }
 
-// newer ARITIES | CORRECTED | TABLE | RECORD | TABLE | PATTERN
+// newer ARITIES | CORRECTED | TABLE | CLASSES | RECORD | TABLE | CLASSES | PATTERN
 pub fn newer(case: &[u16]) {
     newer_answer(case);
     newer_part(case);
@@ -128,6 +139,8 @@ fn newer_answer(case: &[u16]) {
         list_at(case, 3),
         list_at(case, 4),
         list_at(case, 5),
+        list_at(case, 6),
+        list_at(case, 7),
     ));
 }
 
@@ -139,6 +152,8 @@ fn newer_part(case: &[u16]) {
         list_at(case, 3),
         list_at(case, 4),
         list_at(case, 5),
+        list_at(case, 6),
+        list_at(case, 7),
     ));
 }
 

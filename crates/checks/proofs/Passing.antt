@@ -30,7 +30,7 @@ pub given-few : (a : Alphabet) (P : Programme) (n : ℕ) → given a P n ≡ Fin
 unfolding given
 given-few a P n e = alphabet-few a (both-fine (alphabet a) (kept Row a P n) e .0)
 
--- what refusals 1 to 10 and 17 leave
+-- what refusals 1 to 10, 62 and 17 leave
 pub record Stands (a : Alphabet) (P : Programme) (p : ℕ) : Type 0 where
   pub right : Right (a .arities) (P .row) (P .table)
   pub below : p < length (P .row)
@@ -39,16 +39,17 @@ pub subtree-stands : (a : Alphabet) (P : Programme) (p : ℕ) → subtreeCheck a
 unfolding subtreeCheck
 subtree-stands a P p e =
     let both = both-fine (given a P (length (P .row))) (position (length (P .row)) p) e in
-    record { right = given-right a P (both .0); below = position-fine (length (P .row)) p (both .1) }
+    record { right = given-right a P (both .0) .row; below = position-fine (length (P .row)) p (both .1) }
 
--- row, table and pattern can be searched
+-- row, table, classes and pattern can be searched
 pub search-checked : (a : Alphabet) (P : Programme) (q : List ℕ) → searchCheck a P q ≡ Fine → Checked a P q
 unfolding searchCheck pattern
 search-checked a P q e =
     let both = both-fine (given a P (length (P .row))) (pattern (a .arities) q) e in
     record {
       few = given-few a P (length (P .row)) (both .0);
-      row = given-right a P (both .0);
+      row = given-right a P (both .0) .row;
+      classed = given-right a P (both .0) .classed;
       pattern = pattern-fine (reading (a .arities) Blanks patternMost q) (both .1);
     }
 
@@ -70,7 +71,8 @@ newer-checked a P O q e =
       search-checked a P q (ap₂ _then_ (corrected .0) (older .1)),
       record {
         few = given-few a P (length (P .row)) (corrected .0);
-        row = kept-whole OnRecord a O (older .0);
+        row = kept-whole OnRecord a O (older .0) .row;
+        classed = kept-whole OnRecord a O (older .0) .classed;
         pattern = pattern-fine (reading (a .arities) Blanks patternMost q) (older .1);
       },
     )

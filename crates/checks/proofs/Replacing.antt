@@ -22,12 +22,12 @@ use Rattle.rows.proofs.Passing.{both-fine, position-fine, replacement-whole, be
 use Rattle.tables.proofs.Given.{Held, kept-right, right-bounds}
 use Rattle.patterns.proofs.Matching.{both-whole}
 use Rattle.edits.specs.Put.{changed}
-use Rattle.edits.specs.Replace.{Replaceable}
+use Rattle.edits.specs.Replace.{Replaceable, ClassRoom}
 use Rattle.edits.proofs.Place.{position-past, position-in, grown-fits, grown-fine}
 use Rattle.edits.proofs.Replace.{new-length}
 use Rattle.checks.specs.Checks.{replaceCheck}
 
--- refusals 1 to 10 leave a row at the front of its buffer, with its table
+-- refusals 1 to 10 and 62 leave a programme in order, at the front of its buffer
 pub given-held : (a : Alphabet) (P : Programme) (n : ℕ) → given a P n ≡ Fine → Held a P n
 unfolding given
 given-held a P n e = kept-right Row a P n (both-fine (alphabet a) (kept Row a P n) e .1)
@@ -49,7 +49,7 @@ place-check a P n v p room h accepted =
     (λ i.
     let l = length-take-le n (P .row) (omega (arith, h .fits)) in
     ap (λ (m : ℕ). position n p then grown m room)
-    (sym (new-length (a .arities) w (P .table) v p (h .right) accepted (omega arith) ∙ ap (λ (k : ℕ). p + length v + (k - getD (P .table) p 0)) l)))
+    (sym (new-length (a .arities) w (P .table) v p (h .order .row) accepted (omega arith) ∙ ap (λ (k : ℕ). p + length v + (k - getD (P .table) p 0)) l)))
     (λ i. position-past n p (grown (p + length v + (n - getD (P .table) p 0)) room) i ∙ sym (position-past n p (grown (size (changed (a .arities) w p v)) room) i))
 
 -- and behind the replacement's own
@@ -69,7 +69,7 @@ place-behind a P n v p room h = go (replacement (a .arities) v) refl
 pub held-end : (a : Alphabet) (P : Programme) (n p : ℕ) → Held a P n → p < n → getD (P .table) p 0 ≤ n
 held-end a P n p h i =
     let l = length-take-le n (P .row) (omega (arith, h .fits)) in
-    omega (arith, right-bounds (a .arities) (take n (P .row)) (P .table) (h .right) p (omega arith))
+    omega (arith, right-bounds (a .arities) (take n (P .row)) (P .table) (h .order .row) p (omega arith))
 
 -- all refusals together leave what a replacement asks for
 pub replace-held : (a : Alphabet) (P : Programme) (n : ℕ) (v : List ℕ) (p : ℕ) → replaceCheck a P n v p ≡ Fine → given a P n ≡ Fine
@@ -93,13 +93,26 @@ replace-able a P n v p e =
     let f = grown-fine m (room P) (z .1) in
     record {
       within = omega (arith, h .fits);
-      right = h .right;
+      right = h .order .row;
       accepted = replacement-fine (a .arities) v (y .0) .1;
       position = position-fine n p (z .0);
       most = omega arith;
       row-room = omega arith;
       table-room = omega arith;
     }
+
+pub replace-classes : (a : Alphabet) (P : Programme) (n : ℕ) (v : List ℕ) (p : ℕ) → replaceCheck a P n v p ≡ Fine
+    → ClassRoom (a .arities) (P .row) (P .classes) n v p
+unfolding replaceCheck
+replace-classes a P n v p e =
+    let m : ℕ = size (changed (a .arities) (take n (P .row)) p v) in
+    let g : Check = grown m (room P) in
+    let x = both-fine (given a P n) (replacement (a .arities) v then position n p then g) e in
+    let y = both-fine (replacement (a .arities) v) (position n p then g) (x .1) in
+    let z = both-fine (position n p) g (y .1) in
+    let h = given-held a P n (x .0) in
+    let f = grown-fine m (room P) (z .1) in
+    record { old = omega (arith, h .fits); new = omega arith }
 
 pub replace-short : (a : Alphabet) (P : Programme) (n : ℕ) (v : List ℕ) (p : ℕ) → replaceCheck a P n v p ≡ Fine → length v ≤ rowMost
 unfolding replaceCheck

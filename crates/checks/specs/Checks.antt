@@ -17,19 +17,19 @@ use Rattle.edits.specs.Put.{changed}
 unfoldable pub buildCheck : Alphabet → Programme → Check
 buildCheck a P = alphabet a then sizes Row (length (P .row)) (room P) then symbols Row (a .arities) (P .row)
 
--- A PATTERN OVER A ROW WITH WHAT STANDS BESIDE IT. Refusals 1 to 15.
+-- A PATTERN OVER A ROW WITH WHAT STANDS BESIDE IT. Refusals 1 to 10, 62, 11 to 15.
 unfoldable pub searchCheck : Alphabet → Programme → List ℕ → Check
 searchCheck a P q = given a P (length (P .row)) then pattern (a .arities) q
 
--- FIND. Refusals 1 to 15, then 19 where the n matches have no room in m places.
+-- FIND. Those, then 19 where the n matches have no room in m places.
 unfoldable pub findCheck : Alphabet → Programme → List ℕ → ℕ → ℕ → Check
 findCheck a P q n m = searchCheck a P q then output n m
 
--- VARIABLES. Refusals 1 to 15, 17, then 19 where the output of m places has no room for begin and end of each variable.
+-- VARIABLES. Those, 17, then 19 where the output of m places has no room for begin and end of each variable.
 unfoldable pub variablesCheck : Alphabet → Programme → List ℕ → ℕ → ℕ → Check
 variablesCheck a P q p m = searchCheck a P q then position (length (P .row)) p then output spanPlaces m
 
--- REPLACE, in the row of the first n places of its buffer. Refusals 1 to 10, 24 to 29, 17 and 18.
+-- REPLACE, in the row of the first n places of its buffer. Refusals 1 to 10, 62, 24 to 29, 17 and 18.
 unfoldable pub replaceCheck : Alphabet → Programme → ℕ → List ℕ → ℕ → Check
 replaceCheck a P n v p =
     given a P n
@@ -37,11 +37,11 @@ replaceCheck a P n v p =
     then position n p
     then grown (size (changed (a .arities) (front n P .row) p v)) (room P)
 
--- SUBTREE. Refusals 1 to 10, then 17.
+-- SUBTREE. Refusals 1 to 10, 62, then 17.
 unfoldable pub subtreeCheck : Alphabet → Programme → ℕ → Check
 subtreeCheck a P p = given a P (length (P .row)) then position (length (P .row)) p
 
--- NEWER OR OLDER. Refusals 1 to 3, 4 to 10 of the corrected row, 44 to 50 of the row on record, 11 to 15.
+-- NEWER OR OLDER. Refusals 1 to 3, 4 to 10 and 62 of the corrected row, 44 to 50 and 102 of the row on record, 11 to 15.
 unfoldable pub newerCheck : Alphabet → Programme → Programme → List ℕ → Check
 newerCheck a P O q = given a P (length (P .row)) then kept OnRecord a O (length (O .row)) then pattern (a .arities) q
 

@@ -34,21 +34,22 @@ pub fn check_replacement(
     edits::check_place(table, room, n, replacement.len(), position)
 }
 
-// Refusals 1 to 10, 24 to 29, 17 and 18.
+// Refusals 1 to 10, 62, 24 to 29, 17 and 18.
 pub fn check_replace(
     arities: &[u16],
     row: &[u16],
     table: &[u16],
+    classes: &[u16],
     n: usize,
     replacement: &[u16],
     position: usize,
 ) -> Check
-    ensures { λ r. ⌜ r ≡ replaceCheck (alphabetOf (now (arities .entry))) (programme (now (row .entry)) (now (table .entry))) n (now (replacement .entry)) position ⌝ }
+    ensures { λ r. ⌜ r ≡ replaceCheck (alphabetOf (now (arities .entry))) (programme (now (row .entry)) (now (table .entry)) (now (classes .entry))) n (now (replacement .entry)) position ⌝ }
 {
-    let given = crate::given::check_given(arities, row, table, n);
+    let given = crate::given::check_given(arities, row, table, classes, n);
     let Check::Fine = given else {
         return given;
     };
-    let room = rows::shorter(row.len(), table.len());
+    let room = rows::shortest(row.len(), table.len(), classes.len());
     check_replacement(arities, table, n, replacement, position, room)
 }

@@ -1,20 +1,74 @@
 // What every call refuses that is lent a row with what stands beside it.
 ghost use mathlib.Core.Path.{_≡_};
+ghost use mathlib.Core.List.{List};
+ghost use Prim.Native.Nat.{ℕ, _≤_};
+ghost use lib.ListN.{length};
 ghost use Rattle.rows.specs.Programme.{alphabetOf, programme};
-ghost use Rattle.rows.specs.Refusals.{given};
+ghost use Rattle.rows.specs.Refusals.{_then_, keeps, symbols, fresh, classed, kept, given};
+ghost use Rattle.rows.specs.declared.Kept.{Kept};
+ghost use Rattle.rows.specs.declared.Refusal.{Refusal};
+ghost use Rattle.rows.specs.declared.Keeping.the-variants.{Sound};
+ghost use Rattle.tables.specs.Given.{Sized, Right};
 use rows::Check;
 use rows::Keeping;
 use rows::Refusal;
 
-// Refusals 1 to 10, for a row of the first n places of its buffer.
-pub fn check_given(arities: &[u16], row: &[u16], table: &[u16], n: usize) -> Check
-    ensures { λ r. ⌜ r ≡ given (alphabetOf (now (arities .entry))) (programme (now (row .entry)) (now (table .entry))) n ⌝ }
+// What was found of row and table, which is refusals 7 to 10, and then 62.
+fn then_classes(found: Keeping, row: &[u16], table: &[u16], classes: &[u16]) -> Keeping
+    requires { ⌜ (found ≡ Sound → ((A : List ℕ) × Right A (now row) (now table))) × (length (now row) ≤ length (now classes)) ⌝ }
+    ensures { λ r. ⌜ ((A : List ℕ) → Sized (now (row .entry)) (now (table .entry)) → ((whose : Kept → Refusal) → keeps whose found ≡ (symbols whose A (now (row .entry)) then fresh whose A (now (row .entry)) (now (table .entry)))) → (whose : Kept → Refusal) → keeps whose r ≡ (symbols whose A (now (row .entry)) then fresh whose A (now (row .entry)) (now (table .entry)) then classed whose A (now (row .entry)) (now (classes .entry)))) ⌝ }
+{
+    let Keeping::Sound = found else {
+        return found;
+    };
+    class_checks::check_classes(row, table, classes)
+}
+
+// Refusals 7 to 10, then 62: a row, its table and its classes, which have room for it. `standing` has room for the row's ends.
+pub fn check_beside(
+    arities: &[u16],
+    row: &[u16],
+    table: &[u16],
+    classes: &[u16],
+    standing: &mut [u16],
+) -> Keeping
+    requires { ⌜ Sized (now row) (now table) × (length (now row) ≤ length (now classes)) × (length (now row) ≤ length (now standing)) ⌝ }
+    ensures { λ r. ⌜ ((whose : Kept → Refusal) → keeps whose r ≡ (symbols whose (now (arities .entry)) (now (row .entry)) then fresh whose (now (arities .entry)) (now (row .entry)) (now (table .entry)) then classed whose (now (arities .entry)) (now (row .entry)) (now (classes .entry)))) ⌝ }
+{
+    let found = tables::check_beside(arities, row, table, standing);
+    then_classes(found, row, table, classes)
+}
+
+// The same. A shorter row takes less room.
+fn check_lists(arities: &[u16], row: &[u16], table: &[u16], classes: &[u16]) -> Keeping
+    requires { ⌜ Sized (now row) (now table) × (length (now row) ≤ length (now classes)) ⌝ }
+    ensures { λ r. ⌜ ((whose : Kept → Refusal) → keeps whose r ≡ (symbols whose (now (arities .entry)) (now (row .entry)) then fresh whose (now (arities .entry)) (now (row .entry)) (now (table .entry)) then classed whose (now (arities .entry)) (now (row .entry)) (now (classes .entry)))) ⌝ }
+{
+    let found = tables::check_ends(arities, row, table);
+    then_classes(found, row, table, classes)
+}
+
+// Refusals 4 to 10, then 62: a row, the first n places of its buffer, with what stands beside it.
+pub fn check_kept(arities: &[u16], row: &[u16], table: &[u16], classes: &[u16], n: usize) -> Keeping
+    ensures { λ r. ⌜ ((whose : Kept → Refusal) → keeps whose r ≡ kept whose (alphabetOf (now (arities .entry))) (programme (now (row .entry)) (now (table .entry)) (now (classes .entry))) n) ⌝ }
+{
+    let room = rows::shortest(row.len(), table.len(), classes.len());
+    let sizes = rows::check_sizes(n, room);
+    let Keeping::Sound = sizes else {
+        return sizes;
+    };
+    check_lists(arities, &row[..n], table, classes)
+}
+
+// Refusals 1 to 10, then 62, for a row of the first n places of its buffer.
+pub fn check_given(arities: &[u16], row: &[u16], table: &[u16], classes: &[u16], n: usize) -> Check
+    ensures { λ r. ⌜ r ≡ given (alphabetOf (now (arities .entry))) (programme (now (row .entry)) (now (table .entry)) (now (classes .entry))) n ⌝ }
 {
     let alphabet = rows::check_alphabet(arities);
     let Check::Fine = alphabet else {
         return alphabet;
     };
-    match tables::check_kept(arities, row, table, n) {
+    match check_kept(arities, row, table, classes, n) {
         Keeping::Unsound(k) => Check::Refused(Refusal::Row(k)),
         Keeping::Sound => Check::Fine,
     }

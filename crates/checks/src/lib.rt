@@ -8,6 +8,7 @@ mod table;
 
 pub use edit::check_replace;
 pub use edit::check_replacement;
+pub use given::check_beside;
 pub use given::check_given;
 pub use matcher::check_plain;
 pub use parts::check_newer;

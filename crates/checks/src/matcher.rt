@@ -8,7 +8,7 @@ use rows::Leaves;
 use rows::Refusal;
 use rows::Verdict;
 
-// Refusals 1 to 5, 7 to 9, 11 to 15, and 17. Nothing stands beside the row, so 6 and 10 never occur.
+// Refusals 1 to 5, 7 to 9, 11 to 15, and 17. Nothing stands beside the row, so 6, 10 and 62 never occur.
 pub fn check_plain(arities: &[u16], row: &[u16], pattern: &[u16], position: usize) -> Check
     ensures { λ r. ⌜ r ≡ plainCheck (alphabetOf (now (arities .entry))) (now (row .entry)) (now (pattern .entry)) position ⌝ }
 {

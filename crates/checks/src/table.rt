@@ -6,15 +6,15 @@ use rows::Check;
 use rows::Keeping;
 use rows::Refusal;
 
-// Refusals 1 to 9. The table is not read.
-pub fn check_build(arities: &[u16], row: &[u16], table: &[u16]) -> Check
-    ensures { λ r. ⌜ r ≡ buildCheck (alphabetOf (now (arities .entry))) (programme (now (row .entry)) (now (table .entry))) ⌝ }
+// Refusals 1 to 9. Table and classes are not read.
+pub fn check_build(arities: &[u16], row: &[u16], table: &[u16], classes: &[u16]) -> Check
+    ensures { λ r. ⌜ r ≡ buildCheck (alphabetOf (now (arities .entry))) (programme (now (row .entry)) (now (table .entry)) (now (classes .entry))) ⌝ }
 {
     let alphabet = rows::check_alphabet(arities);
     let Check::Fine = alphabet else {
         return alphabet;
     };
-    let room = rows::shorter(row.len(), table.len());
+    let room = rows::shortest(row.len(), table.len(), classes.len());
     if let Keeping::Unsound(k) = rows::check_sizes(row.len(), room) {
         return Check::Refused(Refusal::Row(k));
     }

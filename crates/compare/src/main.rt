@@ -1,6 +1,7 @@
-// The plain matcher against find, with the table that build leaves: every list of one to four numbers below 6, and every row
-// of five to seven; every position. What find refuses, the plain matcher has to refuse alike. The file `stdin` has the
-// alphabet, of five symbols, and the patterns, some of which are faulty: lists with a bar between each two.
+// The plain matcher against find, with the table and the classes that build leaves: every list of one to four numbers below 6,
+// and every row of five to seven; every position. What find refuses, the plain matcher has to refuse alike. The class of every
+// position of every row is compared too, with the first position of an equal subtree. The file `stdin` has the alphabet, of five
+// symbols, and the patterns, some of which are faulty: lists with a bar between each two.
 ghost use mathlib.Core.Path.{_≡_};
 ghost use Prim.Native.Nat.{_≤_};
 ghost use lib.ListN.{length};
@@ -15,11 +16,13 @@ use sparrowhem::Fits;
 use sparrowhem::Found;
 use sparrowhem::Refusal;
 
-// How many positions were tried and how many of them match, how many calls were refused alike, and how often the two differ.
+// How many positions were tried and how many of them match, how many calls were refused alike, how many classes were compared,
+// and how often the two differ.
 struct Tally {
     positions: usize,
     matches: usize,
     refused: usize,
+    classes: usize,
     apart: usize,
 }
 
@@ -42,6 +45,13 @@ impl Tally {
     // A call that find refuses.
     fn refusal(mut self, same: bool) -> Self {
         self.refused = more(self.refused, same);
+        self.apart = more(self.apart, !same);
+        self
+    }
+
+    // A position whose class is the one that it has to be, or not.
+    fn class(mut self, same: bool) -> Self {
+        self.classes = more(self.classes, true);
         self.apart = more(self.apart, !same);
         self
     }
@@ -126,9 +136,10 @@ fn judged(
 // One list of up to seven numbers with one pattern.
 fn compared(arities: &[u16], list: &[u16], pattern: &[u16], tally: Tally) -> Tally {
     let mut table = [0u16; 7];
-    sparrowhem::build(arities, list, &mut table);
+    let mut classes = [0u16; 7];
+    sparrowhem::build(arities, list, &mut table, &mut classes);
     let mut out = [0u16; 7];
-    let answer = sparrowhem::find(arities, list, &table, pattern, &mut out);
+    let answer = sparrowhem::find(arities, list, &table, &classes, pattern, &mut out);
     judged(answer, arities, list, pattern, &out, tally)
 }
 
@@ -151,18 +162,69 @@ fn is_fine(answer: Check) -> bool {
     }
 }
 
+// The number at a place; 0 past the end.
+fn entry(numbers: &[u16], i: usize) -> u16 {
+    if i < numbers.len() { numbers[i] } else { 0 }
+}
+
+// Do the symbols from p up to `end` stand from q on, too?
+fn stands(row: &[u16], q: usize, p: usize, end: usize) -> bool
+    requires { ⌜ (q ≤ p) × (end ≤ length (now row)) ⌝ }
+{
+    for i in p..end {
+        if row[i] != row[q + (i - p)] {
+            return false;
+        }
+    }
+    true
+}
+
+// The first position where the symbols from p up to `end` stand. If they are a subtree's, an equal one stands there: no row of a
+// tree begins with that of another.
+fn first_place(row: &[u16], p: usize, end: usize) -> usize
+    requires { ⌜ end ≤ length (now row) ⌝ }
+{
+    for q in 0..p {
+        if stands(row, q, p, end) {
+            return q;
+        }
+    }
+    p
+}
+
+// The class of every position of a row with its table.
+fn each_class(row: &[u16], table: &[u16], classes: &[u16], tally: Tally) -> Tally {
+    let mut sum = tally;
+    for p in 0..row.len() {
+        let end = rows::shorter(entry(table, p) as usize, row.len());
+        sum = sum.class(entry(classes, p) as usize == first_place(row, p, end));
+    }
+    sum
+}
+
+// The classes that build leaves, if the list is a row.
+fn classed(arities: &[u16], list: &[u16], tally: Tally) -> Tally {
+    let mut table = [0u16; 7];
+    let mut classes = [0u16; 7];
+    if is_fine(sparrowhem::build(arities, list, &mut table, &mut classes)) {
+        return each_class(list, &table, &classes, tally);
+    }
+    tally
+}
+
 // A short list is tried, and a longer one if it is a row.
 fn worth(arities: &[u16], list: &[u16]) -> bool {
     if list.len() < 5 {
         return true;
     }
     let mut table = [0u16; 7];
-    is_fine(sparrowhem::build(arities, list, &mut table))
+    let mut classes = [0u16; 7];
+    is_fine(sparrowhem::build(arities, list, &mut table, &mut classes))
 }
 
 fn tried(case: &[u16], list: &[u16], tally: Tally) -> Tally {
     if worth(list_at(case, 0), list) {
-        return patterns(case, list, tally);
+        return patterns(case, list, classed(list_at(case, 0), list, tally));
     }
     tally
 }
@@ -198,6 +260,7 @@ fn all_lists(case: &[u16]) -> Tally {
         positions: 0,
         matches: 0,
         refused: 0,
+        classes: 0,
         apart: 0,
     };
     let many: [usize; 8] = [1, 6, 36, 216, 1296, 7776, 46656, 279936];
@@ -216,6 +279,8 @@ fn compare(case: &[u16]) {
     number(all.matches);
     text(b" refused");
     number(all.refused);
+    text(b" classes");
+    number(all.classes);
     count(b" apart", all.apart);
 }
 
@@ -227,7 +292,7 @@ fn read(line: &[u8]) {
 
 fn main() {
     title(
-        b"plain against find: lists of one to four numbers, rows of five to seven, 14 patterns, every position",
+        b"plain against find, classes against equal subtrees: lists of one to four numbers, rows of five to seven, 14 patterns, every position",
     );
     let mut line = io::buffer();
     let n = io::read_full(STDIN_FILENO, &mut line);

@@ -4,8 +4,9 @@ use Prim.Native.Nat.{ℕ, _≤_, _<_}
 use mathlib.Core.Path.{_≡_}
 use mathlib.Core.List.{List}
 use lib.ListN.{length, take}
-use Rattle.rows.specs.Limits.{rowMost, freedSymbol, freedEntry}
+use Rattle.rows.specs.Limits.{rowMost, freedSymbol, freedEntry, freedClass}
 use Rattle.rows.specs.Tree.{size, prefix, ends}
+use Rattle.rows.specs.Classes.{classesOf}
 use Rattle.rows.specs.Reading.{Accepted}
 use Rattle.tables.specs.Given.{Right}
 use Rattle.buffers.specs.Renewed.{renewed}
@@ -28,3 +29,12 @@ pub record Replacing (A row table : List ℕ) (n : ℕ) (v : List ℕ) (p : ℕ)
   pub length-now : m ≡ size (changed A (take n row) p v)
   pub row-now : row′ ≡ renewed row n freedSymbol (prefix (changed A (take n row) p v))
   pub table-now : table′ ≡ renewed table n freedEntry (ends 0 (changed A (take n row) p v))
+
+-- room in the list of classes, of which n places are in use, for those of the changed tree
+pub record ClassRoom (A row classes : List ℕ) (n : ℕ) (v : List ℕ) (p : ℕ) : Type 0 where
+  pub old : n ≤ length classes
+  pub new : size (changed A (take n row) p v) ≤ length classes
+
+-- the list holds the classes of the changed tree, zeros in the places that are freed, and what stood behind them before
+pub record Reclassing (A row classes : List ℕ) (n : ℕ) (v : List ℕ) (p : ℕ) (classes′ : List ℕ) : Type 0 where
+  pub classes-now : classes′ ≡ renewed classes n freedClass (classesOf (changed A (take n row) p v))

@@ -1,20 +1,22 @@
-// A row and its table with one subtree replaced, both in place; refusals 17 and 18; the change in length.
+// A row, its table and its classes with one subtree replaced, all in place; refusals 17 and 18; the change in length.
 ghost use mathlib.Core.Path.{_≡_};
-ghost use mathlib.Core.List.{map};
+ghost use mathlib.Core.List.{List, map};
 ghost use Prim.Native.Nat.{ℕ, _+_, _-_, _≤_, _<_};
 ghost use lib.ListN.{length, take, drop, getD};
 ghost use lib.IntN.{pos, _-ℤ_};
-ghost use Rattle.rows.specs.Limits.{rowMost, freedSymbol, freedEntry};
+ghost use Rattle.rows.specs.Limits.{rowMost, freedSymbol, freedEntry, freedClass};
 ghost use Rattle.rows.specs.Tree.{ends};
 ghost use Rattle.rows.specs.Parse.{parse};
+ghost use Rattle.rows.specs.Classes.{classes as classesOfRow};
 ghost use Rattle.rows.specs.Reading.{Accepted};
 ghost use Rattle.rows.specs.Refusals.{_then_, position, grown};
 ghost use Rattle.rows.specs.Buffers.{written};
+ghost use Rattle.tables.specs.Given.{Right};
 ghost use Rattle.buffers.specs.Shift.{shifted, spliced};
 ghost use Rattle.buffers.specs.Renewed.{renewed};
 ghost use Rattle.edits.specs.Moved.{moved, splicedEnds};
 ghost use Rattle.edits.specs.Given.{Room, Movable};
-ghost use Rattle.edits.specs.Replace.{Replaceable, Replacing};
+ghost use Rattle.edits.specs.Replace.{Replaceable, Replacing, ClassRoom, Reclassing};
 use rows::Check;
 use rows::Refusal;
 
@@ -90,7 +92,7 @@ fn replace_ends(
 
 // In the row of n symbols at the front of its buffer, with its table, the subtree at p gives way to the row `v`. The answer
 // is the new length. `standing` has room for the ends of `v`.
-pub fn replace_beside(
+fn replace_subtree(
     arities: &[u16],
     row: &mut [u16],
     table: &mut [u16],
@@ -108,28 +110,59 @@ pub fn replace_beside(
     p + v.len() + (n - e)
 }
 
+// The classes of the row of m symbols at the front of its buffer, with its table, in a list of which n places were in use;
+// freed places are marked so. Any class may change, also far from the place of a replacement, and so all are filled anew.
+fn renew_classes(row: &[u16], table: &[u16], classes: &mut [u16], n: usize, m: usize)
+    requires { ⌜ ((A : List ℕ) × Right A (take m (now row)) (now table)) × (m ≤ length (now row)) × (m ≤ length (now classes)) × (n ≤ length (now classes)) ⌝ }
+    ensures { λ r. ⌜ ((A : List ℕ) → Right A (take m (now (row .entry))) (now (table .entry)) → now (classes .exit) ≡ renewed (now (classes .entry)) n freedClass (classesOfRow A (take m (now (row .entry))))) ⌝ }
+{
+    classes::fill_classes(&row[..m], table, classes);
+    buffers::fill(classes, m, n, rows::FREED_CLASS);
+}
+
+// In the row of n symbols at the front of its buffer, with its table and its classes, the subtree at p gives way to the row
+// `v`. The answer is the new length. `standing` has room for the ends of `v`.
+pub fn replace_beside(
+    arities: &[u16],
+    row: &mut [u16],
+    table: &mut [u16],
+    classes: &mut [u16],
+    n: usize,
+    v: &[u16],
+    p: usize,
+    standing: &mut [u16],
+) -> usize
+    requires { ⌜ Replaceable (now arities) (now row) (now table) n (now v) p × ClassRoom (now arities) (now row) (now classes) n (now v) p × (length (now v) ≤ length (now standing)) ⌝ }
+    ensures { λ r. ⌜ Replacing (now (arities .entry)) (now (row .entry)) (now (table .entry)) n (now (v .entry)) p (now (row .exit)) (now (table .exit)) r × Reclassing (now (arities .entry)) (now (row .entry)) (now (classes .entry)) n (now (v .entry)) p (now (classes .exit)) ⌝ }
+{
+    let m = replace_subtree(arities, row, table, n, v, p, standing);
+    renew_classes(row, table, classes, n, m);
+    m
+}
+
 // The same. A shorter replacement takes less room for its ends.
 pub fn replace_at(
     arities: &[u16],
     row: &mut [u16],
     table: &mut [u16],
+    classes: &mut [u16],
     n: usize,
     v: &[u16],
     p: usize,
 ) -> usize
-    requires { ⌜ Replaceable (now arities) (now row) (now table) n (now v) p × (length (now v) ≤ rowMost) ⌝ }
-    ensures { λ r. ⌜ Replacing (now (arities .entry)) (now (row .entry)) (now (table .entry)) n (now (v .entry)) p (now (row .exit)) (now (table .exit)) r ⌝ }
+    requires { ⌜ Replaceable (now arities) (now row) (now table) n (now v) p × ClassRoom (now arities) (now row) (now classes) n (now v) p × (length (now v) ≤ rowMost) ⌝ }
+    ensures { λ r. ⌜ Replacing (now (arities .entry)) (now (row .entry)) (now (table .entry)) n (now (v .entry)) p (now (row .exit)) (now (table .exit)) r × Reclassing (now (arities .entry)) (now (row .entry)) (now (classes .entry)) n (now (v .entry)) p (now (classes .exit)) ⌝ }
 {
     if v.len() <= tables::SHORT {
         let mut standing = tables::short_room();
-        return replace_beside(arities, row, table, n, v, p, &mut standing);
+        return replace_beside(arities, row, table, classes, n, v, p, &mut standing);
     }
     if v.len() <= tables::MIDDLE {
         let mut standing = tables::middle_room();
-        return replace_beside(arities, row, table, n, v, p, &mut standing);
+        return replace_beside(arities, row, table, classes, n, v, p, &mut standing);
     }
     let mut standing = tables::long_room();
-    replace_beside(arities, row, table, n, v, p, &mut standing)
+    replace_beside(arities, row, table, classes, n, v, p, &mut standing)
 }
 
 // Refusals 17 and 18, for a subtree of `size` symbols at position p of a row of n symbols with its table, where the shortest

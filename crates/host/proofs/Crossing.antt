@@ -7,12 +7,14 @@ use native.Mathlib.Omega.{arith}
 use lib.ListN.{length, drop}
 use Rattle.rows.specs.Programme.{Alphabet, Programme}
 use Rattle.rows.specs.Parse.{table}
+use Rattle.rows.specs.Classes.{classes}
 use Rattle.rows.specs.Buffers.{written}
 use Rattle.rows.specs.declared.Check.{Check}
 use Rattle.rows.specs.declared.Check.the-variants.{Fine, Refused}
 use Rattle.rows.proofs.Buffers.{length-written}
 use Rattle.rows.proofs.Entry.{length-table}
-use Rattle.checks.proofs.Building.{build-fillable}
+use Rattle.rows.proofs.Classes.{class-of-row}
+use Rattle.checks.proofs.Building.{build-fillable, build-classes}
 use Rattle.sparrowhem.specs.Build.{Built}
 use Rattle.sparrowhem.specs.Search.{Finds}
 use Rattle.sparrowhem.specs.Edit.{Replacement}
@@ -37,7 +39,7 @@ odd l v l′ h e =
     ∙ odd-byte-stays l v h .1
     ∙ ap (λ (n : ℕ). drop (2 * n) l) h
 
--- build leaves the row, and a table of the old length
+-- build leaves the row, and a table and classes of the old length
 built-row : (a : Alphabet) (P : Programme) (r : Check) (P′ : Programme) → Built a P r P′ → P′ .row ≡ P .row
 built-row a P Fine P′ b = ap (λ (x : Programme). x .row) (build-fine a P P′ b)
 built-row a P (Refused x) P′ b = ap (λ (x : Programme). x .row) (build-kept a P x P′ b)
@@ -48,19 +50,31 @@ built-table a P Fine P′ b =
     ∙ length-written (P .table) 0 (table (a .arities) (P .row)) (omega (arith, length-table (a .arities) (P .row), build-fillable a P (sym (b .answer)) .fits))
 built-table a P (Refused x) P′ b = ap (λ (x : Programme). length (x .table)) (build-kept a P x P′ b)
 
+built-classes : (a : Alphabet) (P : Programme) (r : Check) (P′ : Programme) → Built a P r P′ → length (P′ .classes) ≡ length (P .classes)
+built-classes a P Fine P′ b =
+    ap (λ (x : Programme). length (x .classes)) (build-fine a P P′ b)
+    ∙ length-written (P .classes) 0 (classes (a .arities) (P .row)) (omega (arith, class-of-row (a .arities) (P .row) .0, build-classes a P (sym (b .answer))))
+built-classes a P (Refused x) P′ b = ap (λ (x : Programme). length (x .classes)) (build-kept a P x P′ b)
+
 pub build-crosses : Build-crosses
 build-crosses a b r b′ c =
     let P : Programme = numbersOf b in
     let row-is = built-row a P (c .outcome) (c .left) (c .call) in
-    let long = built-table a P (c .outcome) (c .left) (c .call) in
-    let reads : numbersOf b′ ≡ c .left = ap numbersOf (c .bytes) ∙ beside-reads b (c .left) (record { row = ap length row-is; table = long }) row-is in
+    let ends-long = built-table a P (c .outcome) (c .left) (c .call) in
+    let classes-long = built-classes a P (c .outcome) (c .left) (c .call) in
+    let covers : Covers b (c .left) = record { row = ap length row-is; table = ends-long; classes = classes-long } in
+    let reads : numbersOf b′ ≡ c .left = ap numbersOf (c .bytes) ∙ beside-reads b (c .left) covers row-is in
     let same : b′ .row ≡ b .row = ap (λ (x : Lent). x .row) (c .bytes) in
     record {
       outcome = c .outcome;
       call = subst (Built a P (c .outcome)) (sym reads) (c .call);
       answer = c .answer;
       row-stays = same;
-      odd = record { row = ap (drop (2 * length (P .row))) same; table = odd (b .table) (c .left .table) (b′ .table) long (ap (λ (x : Lent). x .table) (c .bytes)) };
+      odd = record {
+        row = ap (drop (2 * length (P .row))) same;
+        table = odd (b .table) (c .left .table) (b′ .table) ends-long (ap (λ (x : Lent). x .table) (c .bytes));
+        classes = odd (b .classes) (c .left .classes) (b′ .classes) classes-long (ap (λ (x : Lent). x .classes) (c .bytes));
+      };
     }
 
 -- find leaves an output of the old length
@@ -86,10 +100,14 @@ find-crosses a P q out r out′ c =
 replaced-covers : (a : Alphabet) (b : Lent) (n : ℕ) (v : List ℕ) (p : ℕ) (r : Replaced) (P′ : Programme) → Replacement a (numbersOf b) n v p r P′ → Covers b P′
 replaced-covers a b n v p (Done m d) P′ o =
     let same = same-lengths a (numbersOf b) n v p P′ m d (went a (numbersOf b) n v p P′ m d o) in
-    record { row = same .0; table = same .1 }
+    record { row = same .0; table = same .1; classes = same .2 }
 replaced-covers a b n v p (Unreplaced x) P′ o =
     let same = stayed a (numbersOf b) n v p P′ x o in
-    record { row = ap (λ (Q : Programme). length (Q .row)) same; table = ap (λ (Q : Programme). length (Q .table)) same }
+    record {
+      row = ap (λ (Q : Programme). length (Q .row)) same;
+      table = ap (λ (Q : Programme). length (Q .table)) same;
+      classes = ap (λ (Q : Programme). length (Q .classes)) same;
+    }
 
 pub replace-crosses : Replace-crosses
 replace-crosses a b n v p r b′ c =
@@ -102,5 +120,6 @@ replace-crosses a b n v p r b′ c =
       odd = record {
         row = odd (b .row) (c .left .row) (b′ .row) (covers .row) (ap (λ (x : Lent). x .row) (c .bytes));
         table = odd (b .table) (c .left .table) (b′ .table) (covers .table) (ap (λ (x : Lent). x .table) (c .bytes));
+        classes = odd (b .classes) (c .left .classes) (b′ .classes) (covers .classes) (ap (λ (x : Lent). x .classes) (c .bytes));
       };
     }

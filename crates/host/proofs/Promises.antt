@@ -97,7 +97,7 @@ build-for-c-refused a b r b′ small c not = go (c .outcome) (c .call) (c .answe
   where
     go : (o : Check) → Built a (numbersOf b) o (c .left) → r ≡ buildAnswer o (length (numbersOf b .row)) → b′ ≡ b
     go Fine d e = absurd (not (ap (λ (x : Answer). x .refusal) e))
-    go (Refused x) d e = c .bytes ∙ ap (beside b) (build-kept a (numbersOf b) x (c .left) d) ∙ beside-same b (small .table)
+    go (Refused x) d e = c .bytes ∙ ap (beside b) (build-kept a (numbersOf b) x (c .left) d) ∙ beside-same b (small .table) (small .classes)
 
 pub find-for-c-refused : Find-for-C-refused
 find-for-c-refused a P q out r out′ small c not = go (c .outcome) (c .call) (c .answer)
@@ -144,25 +144,28 @@ putting-back-for-c a b n v p r b₁ s b₂ c zero d =
     let back = putting-back a (numbersOf b) n v p (r .count) (told .0) (first .outcome) (numbersOf b₁) (second .outcome) (numbersOf b₂) (first .call) (ap replacedSaid (told .1)) (second .call) in
     (second .answer ∙ ap replaceAnswer (done-said (second .outcome) n (pos n -ℤ pos (r .count)) (back .0)), back .1)
 
--- a refusal that comes after 1 to 10 have found nothing has a later number
-pattern-later : (f : Fault) → 10 < patternNumber f
-pattern-later Empty = omega arith
-pattern-later (Long n) = omega arith
-pattern-later (Stray p) = omega arith
-pattern-later (Early n) = omega arith
-pattern-later (Extra p) = omega arith
+-- a refusal that comes after 1 to 10 and 62 have found nothing has a later number
+abbrev Later : ℕ → Type 0
+Later k = (10 < k) × (k ≡ 62 → ⊥)
 
-later : (v : Verdict) (n m : ℕ) (x : Refusal) → (asPattern v then output n m) ≡ Refused x → 10 < number x
+pattern-later : (f : Fault) → Later (patternNumber f)
+pattern-later Empty = (omega arith, λ e. omega arith)
+pattern-later (Long n) = (omega arith, λ e. omega arith)
+pattern-later (Stray p) = (omega arith, λ e. omega arith)
+pattern-later (Early n) = (omega arith, λ e. omega arith)
+pattern-later (Extra p) = (omega arith, λ e. omega arith)
+
+later : (v : Verdict) (n m : ℕ) (x : Refusal) → (asPattern v then output n m) ≡ Refused x → Later (number x)
 unfolding output
-later (Faulty f) n m x e = let same : Pattern f ≡ x = cc in subst (λ (y : Refusal). 10 < number y) same (pattern-later f)
+later (Faulty f) n m x e = let same : Pattern f ≡ x = cc in subst (λ (y : Refusal). Later (number y)) same (pattern-later f)
 later Whole n m x e = go (ltb m n) e
   where
-    go : (b : Bool) → pick b (Refused (OutputShort n)) Fine ≡ Refused x → 10 < number x
-    go true z = let same : OutputShort n ≡ x = cc in subst (λ (y : Refusal). 10 < number y) same (omega arith)
+    go : (b : Bool) → pick b (Refused (OutputShort n)) Fine ≡ Refused x → Later (number x)
+    go true z = let same : OutputShort n ≡ x = cc in subst (λ (y : Refusal). Later (number y)) same (omega arith, λ e. omega arith)
     go false z = absurd (clash Fine x refl z)
 
 refused-later : (a : Alphabet) (P : Programme) (q y : List ℕ) (o : Found) (y′ : List ℕ) → given a P (length (P .row)) ≡ Fine → Finds a P q y o y′
-    → 0 < findAnswer o .refusal → 10 < findAnswer o .refusal
+    → 0 < findAnswer o .refusal → Later (findAnswer o .refusal)
 unfolding findCheck searchCheck pattern
 refused-later a P q y (Matches n) y′ e f h = absurd (omega arith)
 refused-later a P q y (Unfound x) y′ e f h =
@@ -172,7 +175,7 @@ refused-later a P q y (Unfound x) y′ e f h =
     ap (λ (c : Check). (c then asPattern v) then output (length ps) (length y)) e in
     go (asPattern v then output (length ps) (length y)) (f .answer ∙ ap (λ (c : Check). found c (length ps)) check) (later v (length ps) (length y) x)
   where
-    go : (c : Check) → Unfound x ≡ found c (length (f .positions)) → (c ≡ Refused x → 10 < number x) → 10 < number x
+    go : (c : Check) → Unfound x ≡ found c (length (f .positions)) → (c ≡ Refused x → Later (number x)) → Later (number x)
     go Fine is l = let z : _≡_ {A = ℕ} 0 1 = cc in absurd (omega arith)
     go (Refused z) is l = let same : z ≡ x = cc in l (ap Refused same)
 
@@ -180,7 +183,7 @@ refused-later a P q y (Unfound x) y′ e f h =
 built-given : (a : Alphabet) (T P : Programme) → Built a T Fine P → P .row ≡ T .row → given a P (length (P .row)) ≡ Fine
 built-given a T P b row-is =
     let n : ℕ = length (P .row) in
-    let same : front n P ≡ P = ap (λ (l : List ℕ). programme l (P .table)) (take-length (P .row)) in
+    let same : front n P ≡ P = ap (λ (l : List ℕ). programme l (P .table) (P .classes)) (take-length (P .row)) in
     built-holds a T P n (subst (Built a T Fine) (sym same) b) (ap length (sym row-is)) .fine
 
 -- an answer to find, on the numbers
@@ -199,7 +202,7 @@ find-after-build-for-c a b r b′ c zero q out s out′ d =
     let row-is : numbersOf b′ .row ≡ numbersOf b .row = ap numbers (built .row-stays) in
     let fine = built-given a (numbersOf b) (numbersOf b′) (subst (λ (o : Check). Built a (numbersOf b) o (numbersOf b′)) (told .0) (built .call)) row-is in
     record {
-      later-refusal = subst (λ (x : Answer). 0 < x .refusal → 10 < x .refusal) (sym (finds .answer)) (refused-later a (numbersOf b′) q (numbers out) (finds .outcome) (numbers out′) fine (finds .call));
+      later-refusal = subst (λ (x : Answer). 0 < x .refusal → Later (x .refusal)) (sym (finds .answer)) (refused-later a (numbersOf b′) q (numbers out) (finds .outcome) (numbers out′) fine (finds .call));
       listed = λ z. subst (λ (w : List ℕ). Listed a w q (length w) (take (s .count) (numbers out′))) row-is (lists-all a (numbersOf b′) q out s out′ finds z .0);
       counted = λ z. lists-all a (numbersOf b′) q out s out′ finds z .1;
       later = λ z. lists-all a (numbersOf b′) q out s out′ finds z .2;

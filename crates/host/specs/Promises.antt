@@ -64,6 +64,7 @@ OddByteStays l l′ = drop (2 * length (numbers l)) l′ ≡ drop (2 * length (n
 pub record OddBytesStay (b b′ : Lent) : Type 0 where
   pub row : OddByteStays (b .row) (b′ .row)
   pub table : OddByteStays (b .table) (b′ .table)
+  pub classes : OddByteStays (b .classes) (b′ .classes)
 
 -- build: the row's bytes stay
 pub record BuiltNumbers (a : Alphabet) (b : Lent) (r : Answer) (b′ : Lent) : Type 0 where
@@ -96,7 +97,7 @@ Replace-crosses = (a : Alphabet) (b : Lent) (n : ℕ) (v : List ℕ) (p : ℕ) (
     → ReplacedNumbers a b n v p r b′
 
 -- From an exported build that answers, after any exported replacements under one alphabet, some of them refused, the bytes hold the
--- row of the tree with the same replacements made in it, no call refuses them, and the table is what a fresh build gives. The bytes
+-- row of the tree with the same replacements made in it, no call refuses them, and table and classes are what a fresh build gives. The bytes
 -- that the run starts with hold the built row, as many numbers as build has counted, at the front, and what build left beside it.
 abbrev pub Run-for-C : Type 0
 Run-for-C = (a : Alphabet) (b : Lent) (r : Answer) (b′ : Lent) → BuiltBytes a b r b′ → r .refusal ≡ 0
@@ -105,18 +106,18 @@ Run-for-C = (a : Alphabet) (b : Lent) (r : Answer) (b′ : Lent) → BuiltBytes 
     → RunForC a (record { lists = start; length = r .count }) calls s
     → Follows a (heldNumbers s) (editsForC (a .arities) (single (x .tree)) calls)
 
--- Putting the old subtree straight back, by the exported replace, is never refused and restores row and table: into the same bytes,
--- with the length last answered and under the same alphabet, the symbols from p up to the old end.
+-- Putting the old subtree straight back, by the exported replace, is never refused and restores row, table and classes: into the same
+-- bytes, with the length last answered and under the same alphabet, the symbols from p up to the old end.
 abbrev pub Putting-back-for-C : Type 0
 Putting-back-for-C = (a : Alphabet) (b : Lent) (n : ℕ) (v : List ℕ) (p : ℕ) (r : Answer) (b₁ : Lent) (s : Answer) (b₂ : Lent)
     → ReplacedBytes a b n v p r b₁ → r .refusal ≡ 0
     → ReplacedBytes a b₁ (r .count) (take (getD (numbersOf b .table) p 0 - p) (drop p (numbersOf b .row))) p s b₂
     → (s ≡ granted n (pos n -ℤ pos (r .count))) × (cut n (numbersOf b₂) ≡ cut n (numbersOf b))
 
--- The exported find, with the bytes of an exported build that answered, is never refused for the alphabet, the row or the table
--- (1 to 10), and lists exactly the matches: the first numbers of the output, as many as it counts; later numbers stay.
+-- The exported find, with the bytes of an exported build that answered, is never refused for the alphabet, the row, the table or
+-- the classes (1 to 10 and 62), and lists exactly the matches: the first numbers of the output, as many as it counts; later numbers stay.
 pub record FindsBuilt (a : Alphabet) (w q out : List ℕ) (r : Answer) (out′ : List ℕ) : Type 0 where
-  pub later-refusal : 0 < r .refusal → 10 < r .refusal
+  pub later-refusal : 0 < r .refusal → (10 < r .refusal) × (r .refusal ≡ 62 → ⊥)
   pub listed : r .refusal ≡ 0 → Listed a w q (length w) (take (r .count) (numbers out′))
   pub counted : r .refusal ≡ 0 → length (take (r .count) (numbers out′)) ≡ r .count
   pub later : r .refusal ≡ 0 → drop (r .count) (numbers out′) ≡ drop (r .count) (numbers out)

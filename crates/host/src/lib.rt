@@ -7,10 +7,15 @@ ghost use Rattle.c_lent.specs.Calls.{BuiltBytes, FoundBytes, ReplacedBytes};
 use c_lent::Answer;
 
 #[no_mangle]
-pub extern "C" fn sparrowhem_build(arities: &[u8], row: &[u8], table: &mut [u8]) -> Answer
-    ensures { λ r. ⌜ BuiltBytes (alphabetOf (numbers (now (arities .entry)))) (lent (now (row .entry)) (now (table .entry))) r (lent (now (row .entry)) (now (table .exit))) ⌝ }
+pub extern "C" fn sparrowhem_build(
+    arities: &[u8],
+    row: &[u8],
+    table: &mut [u8],
+    classes: &mut [u8],
+) -> Answer
+    ensures { λ r. ⌜ BuiltBytes (alphabetOf (numbers (now (arities .entry)))) (lent (now (row .entry)) (now (table .entry)) (now (classes .entry))) r (lent (now (row .entry)) (now (table .exit)) (now (classes .exit))) ⌝ }
 {
-    c_lent::build(arities, row, table)
+    c_lent::build(arities, row, table, classes)
 }
 
 #[no_mangle]
@@ -18,12 +23,13 @@ pub extern "C" fn sparrowhem_find(
     arities: &[u8],
     row: &[u8],
     table: &[u8],
+    classes: &[u8],
     pattern: &[u8],
     out: &mut [u8],
 ) -> Answer
-    ensures { λ r. ⌜ FoundBytes (alphabetOf (numbers (now (arities .entry)))) (numbersOf (lent (now (row .entry)) (now (table .entry)))) (numbers (now (pattern .entry))) (now (out .entry)) r (now (out .exit)) ⌝ }
+    ensures { λ r. ⌜ FoundBytes (alphabetOf (numbers (now (arities .entry)))) (numbersOf (lent (now (row .entry)) (now (table .entry)) (now (classes .entry)))) (numbers (now (pattern .entry))) (now (out .entry)) r (now (out .exit)) ⌝ }
 {
-    c_copied::find(arities, row, table, pattern, out)
+    c_copied::find(arities, row, table, classes, pattern, out)
 }
 
 #[no_mangle]
@@ -31,16 +37,18 @@ pub extern "C" fn sparrowhem_replace(
     arities: &[u8],
     row: &mut [u8],
     table: &mut [u8],
+    classes: &mut [u8],
     row_length: u64,
     replacement: &[u8],
     position: u64,
 ) -> Answer
-    ensures { λ r. ⌜ ReplacedBytes (alphabetOf (numbers (now (arities .entry)))) (lent (now (row .entry)) (now (table .entry))) «row_length» (numbers (now (replacement .entry))) position r (lent (now (row .exit)) (now (table .exit))) ⌝ }
+    ensures { λ r. ⌜ ReplacedBytes (alphabetOf (numbers (now (arities .entry)))) (lent (now (row .entry)) (now (table .entry)) (now (classes .entry))) «row_length» (numbers (now (replacement .entry))) position r (lent (now (row .exit)) (now (table .exit)) (now (classes .exit))) ⌝ }
 {
     c_copied::replace(
         arities,
         row,
         table,
+        classes,
         row_length as usize,
         replacement,
         position as usize,

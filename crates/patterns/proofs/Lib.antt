@@ -2,6 +2,7 @@ pub mod Leaves
 pub mod Standing
 pub mod Fits
 pub mod Fronts
+pub mod Agreeing
 pub mod Marks
 pub mod Walks
 pub mod Missing

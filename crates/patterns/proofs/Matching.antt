@@ -22,8 +22,9 @@ use Rattle.rows.proofs.Scan.{sized-fits}
 use Rattle.tables.proofs.Given.{right-bounds}
 use Rattle.patterns.specs.Answers.{MatchesAt}
 use Rattle.patterns.specs.Searchable.{Checked}
-use Rattle.patterns.specs.Walk.{Outcome, Outcome.misses, Outcome.reaches, walk, unmarked, through, comesThrough, Ends, MarksIn}
+use Rattle.patterns.specs.Walk.{Outcome, Outcome.misses, Outcome.reaches, walk, unmarked, through, comesThrough, Ends, MarksIn, ByClass}
 use Rattle.patterns.proofs.Standing.{Planted, planted-at, planted-once, stands-end}
+use Rattle.patterns.proofs.Agreeing.{by-class}
 use Rattle.patterns.proofs.Fits.{Fits, fits-matches, matches-fits}
 use Rattle.patterns.proofs.Marks.{unmarked-zero, marks-none}
 use Rattle.patterns.proofs.Walks.{Agrees, complete, sound}
@@ -72,6 +73,10 @@ module _ (a : Alphabet) (P : Programme) (q : List ℕ) (c : Checked a P q) where
         past = λ p h. right-bounds (a .arities) (P .row) (P .table) (c .row) p h .0;
         within = λ p h. right-bounds (a .arities) (P .row) (P .table) (c .row) p h .1;
       }
+
+  -- and right classes too
+  pub checked-classes : ByClass (P .row) (P .table) (P .classes)
+  checked-classes = by-class (a .arities) (P .row) (P .table) (P .classes) (c .row) (c .classed)
 
   pub checked-pattern : PatternOf (a .arities) q
   checked-pattern = pattern-of (a .arities) q (c .pattern)

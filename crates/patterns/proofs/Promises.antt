@@ -12,7 +12,9 @@ use lib.Seq.{take-all}
 use Rattle.rows.specs.Limits.{variables}
 use Rattle.rows.specs.Programme.{Alphabet, Programme, programme}
 use Rattle.rows.specs.Parse.{table}
+use Rattle.rows.specs.Classes.{classes}
 use Rattle.rows.proofs.Entry.{length-table, entry-bounds}
+use Rattle.rows.proofs.Classes.{class-of-row}
 use Rattle.rows.proofs.Subtrees.{subtree-row}
 use Rattle.patterns.specs.Answers.{MatchesAt, Listed, facing, spans, Has, Spanned}
 use Rattle.patterns.specs.Searchable.{Checked}
@@ -28,14 +30,15 @@ pub one-list : (a : Alphabet) (w q : List ℕ) (n : ℕ) (ps qs : List ℕ) → 
 one-list = listed-once
 
 module _ (a : Alphabet) (P : Programme) (q : List ℕ) (c : Checked a P q) where
-  -- the row with its own table
+  -- the row with its own table and its own classes
   abbrev pub own : Programme
-  own = programme (P .row) (table (a .arities) (P .row))
+  own = programme (P .row) (table (a .arities) (P .row)) (classes (a .arities) (P .row))
 
-  -- it serves as well as the one that is lent
-  pub own-table : Checked a own q
-  own-table =
+  -- it serves as well as what is lent
+  pub own-checked : Checked a own q
+  own-checked =
       let long : length (table (a .arities) (P .row)) ≡ length (P .row) = length-table (a .arities) (P .row) in
+      let many : length (classes (a .arities) (P .row)) ≡ length (P .row) = class-of-row (a .arities) (P .row) .0 in
       record {
         few = c .few;
         row = record {
@@ -43,16 +46,17 @@ module _ (a : Alphabet) (P : Programme) (q : List ℕ) (c : Checked a P q) where
           sized = record { most = c .row .sized .most; fits = omega arith };
           right = take-all (length (P .row)) (table (a .arities) (P .row)) (omega arith);
         };
+        classed = record { fits = omega arith; right = take-all (length (P .row)) (classes (a .arities) (P .row)) (omega arith) };
         pattern = c .pattern;
       }
 
   -- the walk finds exactly the matches
   pub walk-right : (p : ℕ) → p < length (P .row) → (comesThrough (P .row) (table (a .arities) (P .row)) q p ≡ true) ↔ MatchesAt a (P .row) q p
-  walk-right p h = right a own q own-table p h
+  walk-right p h = right a own q own-checked p h
 
   -- so there is a list of all matches, and it can be computed
   pub walk-lists : Listed a (P .row) q (length (P .row)) (listOf a (P .row) q)
-  walk-lists = listing a own q own-table (length (P .row)) (omega arith)
+  walk-lists = listing a own q own-checked (length (P .row)) (omega arith)
 
 -- begin and end of each variable
 pub spans-long : (A w q : List ℕ) (p : ℕ) → length (spans A w q p) ≡ variables + variables

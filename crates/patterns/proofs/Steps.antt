@@ -1,17 +1,17 @@
 -- One step of the walk, by its cases.
 -- Assumes nothing.
-use Prim.Native.Nat.{ℕ, suc, _+_, _-_, _<_}
+use Prim.Native.Nat.{ℕ, zero, suc, _+_, _-_, _≤_, _<_}
 use mathlib.Core.Path.{_≡_, refl, sym, ap, _∙_, subst}
 use mathlib.Core.List.{List}
 use mathlib.Core.Bool.{Bool, true, false}
 use native.Mathlib.Omega.{arith}
 use borrow.Author.Tests.{eq-eqb, ne-eqb}
 use lib.Dec.{eqb}
-use lib.ListN.{getD, set}
+use lib.ListN.{getD, length, set}
 use Rattle.rows.specs.Limits.{variables}
 use Rattle.rows.specs.Row.{pick}
 use Rattle.patterns.specs.Pattern.{leaf}
-use Rattle.patterns.specs.Walk.{sameSymbol, agreeing, Outcome, Outcome.misses, Outcome.reaches, meets, takes, steps, stepped, marksAfter, Stepping}
+use Rattle.patterns.specs.Walk.{sameSymbol, agreeing, twice, Outcome, Outcome.misses, Outcome.reaches, meets, takes, steps, ByClass, met, marked, stepped, marksAfter, Stepping}
 use Rattle.patterns.specs.declared.Leaf.the-variants.{Plain, Blank, Variable}
 use Rattle.patterns.specs.declared.Stepped.{Stepped}
 use Rattle.patterns.specs.declared.Stepped.the-variants.{To, Miss}
@@ -30,29 +30,43 @@ variable-small s i q = subst (Kind s) q (kind s) .1
 
 -- a variable at a subtree that stands up to `end`
 module _ (w : List ℕ) (end k j : ℕ) (ms : List ℕ) (i : ℕ) where
-  -- what is told of the place
-  abbrev Told : Stepped → List ℕ → Type 0
-  Told r ms′ = Stepping (meets w end k j ms i (getD ms i 0)) ms r ms′
-
   pub meets-first : getD ms i 0 ≡ 0 → meets w end k j ms i (getD ms i 0) ≡ reaches end (set ms i (j + 1))
   unfolding meets
   meets-first z = rw z refl
 
-  pub met-first : getD ms i 0 ≡ 0 → Told (To end) (set ms i (j + 1))
-  met-first z = answers _ (reaches end (set ms i (j + 1))) ms (meets-first z)
+  pub meets-later : (a : ℕ) → getD ms i 0 ≡ suc a → (b : Bool) → twice w a j (end - j) ≡ b
+      → meets w end k j ms i (getD ms i 0) ≡ pick b (reaches end ms) (misses k (j + agreeing w a j (end - j)))
+  unfolding meets
+  meets-later a m b y = ap (meets w end k j ms i) m ∙ rw y refl
 
-  module _ (later : getD ms i 0 ≡ 0 → ⊥) (n : ℕ) (q : n ≡ agreeing w (getD ms i 0 - 1) j (end - j)) where
-    pub meets-later : (b : Bool) → eqb n (end - j) ≡ b → meets w end k j ms i (getD ms i 0) ≡ pick b (reaches end ms) (misses k (j + n))
-    unfolding meets
-    meets-later b y =
-        let m : getD ms i 0 ≡ suc (getD ms i 0 - 1) = omega arith in
-        ap (meets w end k j ms i) m ∙ rw (← q, y) refl
+pick-misses : (b : Bool) (end : ℕ) (ms : List ℕ) (k a : ℕ) → stepped (pick b (reaches end ms) (misses k a)) ≡ Miss → pick b (reaches end ms) (misses k a) ≡ misses k a
+pick-misses true end ms k a x = let z : _≡_ {A = ℕ} 0 1 = cc in absurd (omega arith)
+pick-misses false end ms k a x = refl
 
-    pub met-same : n ≡ end - j → Told (To end) ms
-    met-same y = answers _ (reaches end ms) ms (meets-later true (eq-eqb n (end - j) y))
+meets-misses : (w : List ℕ) (end k j : ℕ) (ms : List ℕ) (i mark : ℕ) → stepped (meets w end k j ms i mark) ≡ Miss
+    → (0 < mark) × (meets w end k j ms i mark ≡ misses k (j + agreeing w (mark - 1) j (end - j)))
+unfolding meets
+meets-misses w end k j ms i zero x = let z : _≡_ {A = ℕ} 0 1 = cc in absurd (omega arith)
+meets-misses w end k j ms i (suc a) x =
+    let same : suc a - 1 ≡ a = omega arith in
+    (omega arith, pick-misses (twice w a j (end - j)) end ms k (j + agreeing w a j (end - j)) x ∙ ap (λ (n : ℕ). misses k (j + agreeing w n j (end - j))) (sym same))
 
-    pub met-other : (n ≡ end - j → ⊥) → Told (Miss k (j + n)) ms
-    met-other y = answers _ (misses k (j + n)) ms (meets-later false (ne-eqb n (end - j) y))
+-- what the classes tell of a variable is what the walk finds
+pub met-by-class : (w e c : List ℕ) (k j : ℕ) (ms : List ℕ) (i : ℕ) → ByClass w e c → j < length w → getD ms i 0 ≤ j
+    → Stepping (meets w (getD e j 0) k j ms i (getD ms i 0)) ms (met c (getD e j 0) j (getD ms i 0)) (marked ms i j (getD ms i 0))
+unfolding meets
+met-by-class w e c k j ms i by h m = go (getD ms i 0) m
+  where
+    either : (b : Bool) (o : Outcome) → stepped o ≡ Miss → marksAfter ms o ≡ ms
+        → Stepping (pick b (reaches (getD e j 0) ms) o) ms (pick b (To (getD e j 0)) Miss) ms
+    either true o x y = record { answer = refl; marks = refl }
+    either false o x y = record { answer = sym x; marks = sym y }
+
+    go : (mark : ℕ) → mark ≤ j → Stepping (meets w (getD e j 0) k j ms i mark) ms (met c (getD e j 0) j mark) (marked ms i j mark)
+    go zero m = record { answer = refl; marks = refl }
+    go (suc a) m =
+        let n : ℕ = getD e j 0 - j in
+        rw (by .same a j (omega arith) h) (either (eqb (getD c a 0) (getD c j 0)) (misses k (j + agreeing w a j n)) refl refl)
 
 -- a number of the pattern
 module _ (w e : List ℕ) (k s j : ℕ) (ms : List ℕ) where
@@ -77,3 +91,14 @@ module _ (w e : List ℕ) (k s j : ℕ) (ms : List ℕ) where
     pub steps-variable : (i : ℕ) → leaf s ≡ Variable i → steps w e k s j ms ≡ meets w (getD e j 0) k j ms i (getD ms i 0)
     unfolding steps takes
     steps-variable i l = rw (y, l) refl
+
+    -- where a variable misses, it was met before, and the first symbol that differs is told
+    pub variable-misses : (i : ℕ) → leaf s ≡ Variable i → stepped (steps w e k s j ms) ≡ Miss
+        → (0 < getD ms i 0) × (steps w e k s j ms ≡ misses k (j + agreeing w (getD ms i 0 - 1) j (getD e j 0 - j)))
+    variable-misses i l z =
+        let f = meets-misses w (getD e j 0) k j ms i (getD ms i 0) (sym (ap stepped (steps-variable i l)) ∙ z) in
+        (f .0, steps-variable i l ∙ f .1)
+
+    -- S never misses
+    pub blank-fits : leaf s ≡ Blank → stepped (steps w e k s j ms) ≡ Miss → ⊥
+    blank-fits l z = let x : _≡_ {A = ℕ} 0 1 = cc (ap stepped (steps-blank l)) in omega arith

@@ -25,7 +25,7 @@ use Rattle.patterns.specs.declared.Leaf.the-variants.{Plain, Blank, Vari
 use Rattle.patterns.proofs.Leaves.{Kind, kind, plain-symbol, leaf-alone}
 use Rattle.patterns.proofs.Standing.{Stands, Planted, planted-row, planted-is, stands-symbol, stands-end, stands-children, stands-siblings, stands-first}
 use Rattle.patterns.proofs.Fits.{Fits, FitsLeaf}
-use Rattle.patterns.proofs.Fronts.{front-same, front-all}
+use Rattle.patterns.proofs.Agreeing.{agreeing-same, agreeing-all}
 use Rattle.patterns.proofs.Marks.{set-cases, marks-set, marks-wider, kept}
 
 -- each mark is that of a place where the tree `v i` of its variable stands
@@ -67,24 +67,6 @@ module _ {A w e : List ℕ} {s : ℕ} {cs f : Forest} {t : ℕ} {ds g : Forest} 
   unfolding prefix size
   past-leaf place q ms h = rw (leaf-alone A (allowed Blanks A) s cs f (c .few) (c .pattern) h, stands-end w e j t ds g (c .stands), add-zero place) refl
 
-  -- the symbols from position a on agree with those of the tree exactly if the tree stands there
-  agreeing-same : (a : ℕ) → Planted A w e a here → agreeing w a j (getD e j 0 - j) ≡ getD e j 0 - j
-  unfolding size
-  agreeing-same a p =
-      let n : getD e j 0 - j ≡ size (single here) = rw (stands-end w e j t ds g (c .stands)) (omega arith) in
-      let long : length (prefix (single here)) ≡ getD e j 0 - j = length-prefix (single here) ∙ sym n in
-      let x : take (getD e j 0 - j) (drop a w) ≡ prefix (single here) =
-      ap (take (getD e j 0 - j)) (p .stands .row) ∙ take-at (prefix (single here)) (p .stands .more) (getD e j 0 - j) long in
-      rw (x, planted-row A w e j here planted-here, front-same (prefix (single here))) long
-
-  agreeing-all : (a : ℕ) (u : Tree) → Planted A w e a u → agreeing w a j (getD e j 0 - j) ≡ getD e j 0 - j → u ≡ here
-  agreeing-all a u p q =
-      let n : ℕ = getD e j 0 - j in
-      let x : take n (drop a w) ≡ take n (drop j w) =
-      front-all (take n (drop a w)) (take n (drop j w)) n (simp length-take (omega arith)) (simp length-take (omega arith)) q in
-      planted-is A w e a u here (drop n (drop a w)) p (planted-here .ranked)
-      (sym (take-append-drop n (drop a w)) ∙ ap (λ (l : List ℕ). l ++ drop n (drop a w)) (x ∙ planted-row A w e j here planted-here))
-
 module _ (A w e : List ℕ) (few : length A ≤ alphabetMost) where
   -- COMPLETE: where the pattern fits, the walk comes to its end, with the marks of the variables' trees
   abbrev Complete : Forest → Type 0
@@ -119,7 +101,7 @@ module _ (A w e : List ℕ) (few : length A ≤ alphabetMost) where
         rw (past-leaf c place q (set ms i (j + 1)) h) (comes-next (set ms i (j + 1)) (marks-here i y) ih x)
     comes-meets i (suc b) n h y ih x =
         let p : Planted A w e b (here c) = subst (λ (u : Tree). Planted A w e b u) y (a .all i b n) in
-        rw (eq-eqb (agreeing w b j (getD e j 0 - j)) (getD e j 0 - j) (agreeing-same c b p), past-leaf c place q ms h) (comes-next ms a ih x)
+        rw (eq-eqb (agreeing w b j (getD e j 0 - j)) (getD e j 0 - j) (agreeing-same A w e j (here c) (planted-here c) b p), past-leaf c place q ms h) (comes-next ms a ih x)
 
     comes-leaf : (l : Leaf) → leaf s ≡ l → Kind s l → Complete cs → Complete f → FitsLeaf v s t ds (Fits v cs ds) l → Fits v f g
         → Comes (onward (steps w e place s j ms) on)
@@ -177,7 +159,7 @@ module _ (A w e : List ℕ) (few : length A ≤ alphabetMost) where
     same-tree : (i b place′ : ℕ) (q′ : List ℕ) (j′ : ℕ) (ms′ : List ℕ) → walk w e place′ q′ j′ ms′ ≡ reaches jf mf → getD ms′ i 0 ≡ suc b → agreeing w b j (getD e j 0 - j) ≡ getD e j 0 - j
         → (v : ℕ → Tree) → Agrees A w e v mf → v i ≡ here c
     same-tree i b place′ q′ j′ ms′ z y p v a =
-        agreeing-all c b (v i) (a .all i b (kept w e place′ q′ j′ ms′ jf mf z .marks i b y)) p
+        agreeing-all A w e j (here c) (planted-here c) b (v i) (a .all i b (kept w e place′ q′ j′ ms′ jf mf z .marks i b y)) p
 
     shows-meets : (i m₀ : ℕ) → getD ms i 0 ≡ m₀ → i < variables → firstVariable ≤ s → Sound f → onward (meets w (getD e j 0) place j ms i m₀) onto ≡ reaches jf mf
         → Shows (λ v. v i ≡ here c)
@@ -185,7 +167,7 @@ module _ (A w e : List ℕ) (few : length A ≤ alphabetMost) where
     shows-meets i zero y b h ih z =
         let z′ = sym (past-leaf c place q (set ms i (j + 1)) h) ∙ z in
         shows-next (λ v. v i ≡ here c) (set ms i (j + 1)) (marks-set (j + size ds + 1) j ms i (omega arith) m) ih z′
-        (same-tree i j (place + size cs + 1) (prefix f ++ q) (j + size ds + 1) (set ms i (j + 1)) z′ (getD-set-same ms i (j + 1) 0 (omega (arith, m .many)) ∙ add-one j) (agreeing-same c j (planted-here c)))
+        (same-tree i j (place + size cs + 1) (prefix f ++ q) (j + size ds + 1) (set ms i (j + 1)) z′ (getD-set-same ms i (j + 1) 0 (omega (arith, m .many)) ∙ add-one j) (agreeing-same A w e j (here c) (planted-here c) j (planted-here c)))
     shows-meets i (suc b) y l h ih z = go (eqb (agreeing w b j (getD e j 0 - j)) (getD e j 0 - j)) refl z
       where
         go : (d : Bool) → eqb (agreeing w b j (getD e j 0 - j)) (getD e j 0 - j) ≡ d

@@ -105,17 +105,31 @@ pub record MarksIn (n : ℕ) (ms : List ℕ) : Type 0 where
   pub many : length ms ≡ variables
   pub all : (i : ℕ) → getD ms i 0 ≤ n
 
--- variable i at position j of the row w, where a subtree stands up to `end`, with marks of positions before j
-pub record Meetable (w : List ℕ) (i j end : ℕ) (ms : List ℕ) : Type 0 where
-  pub most : length w ≤ rowMost
+-- variable i at position j, which has a class in the list c, with marks of positions before j
+pub record Meetable (c : List ℕ) (i j : ℕ) (ms : List ℕ) : Type 0 where
+  pub most : j < rowMost
+  pub long : j < length c
   pub variable : i < variables
-  pub past : j < end
-  pub within : end ≤ length w
   pub marks : MarksIn j ms
+
+-- what the code needs of classes: one for each position of the row, and two positions have one class exactly if the symbols of the
+-- subtree at the later one stand at the other too
+pub record ByClass (w e c : List ℕ) : Type 0 where
+  pub long : length w ≤ length c
+  pub same : (a j : ℕ) → a < j → j < length w → twice w a j (getD e j 0 - j) ≡ eqb (getD c a 0) (getD c j 0)
+
+-- the code's answer for a variable, by the classes c and its mark m: at its first place it is marked; at a later one the classes decide
+abbrev pub met : List ℕ → ℕ → ℕ → ℕ → Stepped
+met c end j zero = To end
+met c end j (suc a) = pick (eqb (getD c a 0) (getD c j 0)) (To end) Miss
+
+abbrev pub marked : List ℕ → ℕ → ℕ → ℕ → List ℕ
+marked ms i j zero = set ms i (j + 1)
+marked ms i j (suc a) = ms
 
 -- the code's answer for a step, and the marks that it leaves where it found ms
 abbrev pub stepped : Outcome → Stepped
-stepped (misses k j) = Miss k j
+stepped (misses k j) = Miss
 stepped (reaches j ms) = To j
 
 abbrev pub marksAfter : List ℕ → Outcome → List ℕ
@@ -125,6 +139,11 @@ marksAfter ms (reaches j ms′) = ms′
 pub record Stepping (o : Outcome) (ms : List ℕ) (r : Stepped) (ms′ : List ℕ) : Type 0 where
   pub answer : r ≡ stepped o
   pub marks : ms′ ≡ marksAfter ms o
+
+-- the code's answer for a step that misses: where the walk misses there
+abbrev pub Misses : Outcome → Walked → Type 0
+Misses o Through = ⊥
+Misses o (Fails k j) = o ≡ misses k j
 
 -- the code's answer for a whole walk: it says that the walk comes through exactly if M, the match, holds; and the two numbers
 -- of a miss are the walk's

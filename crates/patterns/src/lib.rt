@@ -1,13 +1,15 @@
 // Patterns: what a number of a pattern stands for, the check of a pattern, and one step of the walk along it over a row with
-// its table. A step that fails says where: at which place of the pattern, and at which position of the row.
+// its table and its classes; and where a step misses: at which place of the pattern, and at which position of the row.
 ghost use mathlib.Core.Path.{_≡_};
 ghost use mathlib.Core.Bool.{false};
-ghost use Prim.Native.Nat.{_+_, _-_, _≤_, _<_};
+ghost use Prim.Native.Nat.{ℕ, _+_, _-_, _≤_, _<_};
 ghost use lib.ListN.{length, getD};
 ghost use Rattle.rows.specs.Refusals.{pattern};
 ghost use Rattle.patterns.specs.Pattern.{leaf};
 ghost use Rattle.patterns.specs.Searchable.{BlankFrom};
-ghost use Rattle.patterns.specs.Walk.{sameSymbol, agreeing, twice, Alike, meets, steps, Ends, MarksIn, Meetable, Stepping};
+ghost use Rattle.patterns.specs.Walk.{sameSymbol, agreeing, Alike, steps, Ends, MarksIn, ByClass, met, marked, Meetable, stepped, Stepping, Misses};
+ghost use Rattle.patterns.specs.declared.Stepped.the-variants.{Miss};
+ghost use Rattle.patterns.specs.declared.Walked.the-variants.{Fails};
 use rows::Check;
 use rows::Leaves;
 use rows::Refusal;
@@ -109,20 +111,10 @@ pub fn count_same(row: &[u16], a: usize, b: usize, n: usize) -> usize
     i + count_singly(row, a + i, b + i, n - i)
 }
 
-// Does the subtree at b stand at a, before it, too?
-pub fn stands_twice(row: &[u16], table: &[u16], a: usize, b: usize) -> bool
-    requires { ⌜ Ends (now row) (now table) × (a < b) × (b < length (now row)) ⌝ }
-    ensures { λ r. ⌜ r ≡ twice (now (row .entry)) a b (getD (now (table .entry)) b 0 - b) ⌝ }
-{
-    let n = table[b] as usize - b;
-    count_same(row, a, b, n) == n
-}
-
-// What a number of the pattern finds in the row: the position after what it stands for; or its place in the pattern, and the
-// position of the row where it does not fit.
+// What a number of the pattern finds in the row: the position after what it stands for; or that it does not fit.
 pub enum Stepped {
     To(usize),
-    Miss(usize, usize),
+    Miss,
 }
 
 // What a walk along the whole pattern finds: it comes through; or the place of the pattern and the position of the row where
@@ -132,49 +124,70 @@ pub enum Walked {
     Fails(usize, usize),
 }
 
-// Variable i at place k of the pattern and row position j, where a subtree stands up to `end`. At its first place it is
-// marked; at a later one the subtree of the first stands again.
-pub fn meet(
-    row: &[u16],
-    i: usize,
-    k: usize,
-    j: usize,
-    end: usize,
-    marks: &mut [u16; MARKS],
-) -> Stepped
-    requires { ⌜ Meetable (now row) i j end (now marks) ⌝ }
-    ensures { λ r. ⌜ Stepping (meets (now (row .entry)) end k j (now (marks .entry)) i (getD (now (marks .entry)) i 0)) (now (marks .entry)) r (now (marks .exit)) ⌝ }
+// Variable i at row position j, where a subtree stands up to `end`. At its first place it is marked; at a later one the
+// subtree of the first stands again, which the classes tell.
+fn meet(classes: &[u16], i: usize, j: usize, end: usize, marks: &mut [u16; MARKS]) -> Stepped
+    requires { ⌜ Meetable (now classes) i j (now marks) ⌝ }
+    ensures { λ r. ⌜ (r ≡ met (now (classes .entry)) end j (getD (now (marks .entry)) i 0)) × (now (marks .exit) ≡ marked (now (marks .entry)) i j (getD (now (marks .entry)) i 0)) ⌝ }
 {
     let mark = marks[i] as usize;
     if mark == 0 {
         marks[i] = (j + 1) as u16;
         return Stepped::To(end);
     }
-    let n = end - j;
-    let equal = count_same(row, mark - 1, j, n);
-    if equal == n {
+    if classes[mark - 1] == classes[j] {
         return Stepped::To(end);
     }
-    Stepped::Miss(k, j + equal)
+    Stepped::Miss
 }
 
-// The number s at place k of the pattern at row position j, where another symbol stands: only S and a variable can fit.
+// The number s of the pattern at row position j, where another symbol stands: only S and a variable can fit.
 pub fn step(
+    row: &[u16],
+    table: &[u16],
+    classes: &[u16],
+    s: u16,
+    j: usize,
+    marks: &mut [u16; MARKS],
+) -> Stepped
+    requires { ⌜ Ends (now row) (now table) × ByClass (now row) (now table) (now classes) × MarksIn j (now marks) × (j < length (now row)) × (sameSymbol (getD (now row) j 0) s ≡ false) ⌝ }
+    ensures { λ r. ⌜ ((k : ℕ) → Stepping (steps (now (row .entry)) (now (table .entry)) k s j (now (marks .entry))) (now (marks .entry)) r (now (marks .exit))) ⌝ }
+{
+    let kind = leaf_of(s);
+    match kind {
+        Leaf::Plain => Stepped::Miss,
+        Leaf::Blank => Stepped::To(table[j] as usize),
+        Leaf::Variable(i) => meet(classes, i, j, table[j] as usize, marks),
+    }
+}
+
+// Where a later place k of a variable does not fit at row position j: at the first symbol that differs from those at `first`.
+fn differ_at(row: &[u16], table: &[u16], k: usize, j: usize, first: usize) -> Walked
+    requires { ⌜ Ends (now row) (now table) × (first < j) × (j < length (now row)) ⌝ }
+    ensures { λ r. ⌜ r ≡ Fails k (j + agreeing (now (row .entry)) first j (getD (now (table .entry)) j 0 - j)) ⌝ }
+{
+    let size = table[j] as usize - j;
+    Walked::Fails(k, j + count_same(row, first, j, size))
+}
+
+// Where the number s at place k of the pattern does not fit at row position j.
+pub fn miss_at(
     row: &[u16],
     table: &[u16],
     k: usize,
     s: u16,
     j: usize,
-    marks: &mut [u16; MARKS],
-) -> Stepped
+    marks: &[u16; MARKS],
+) -> Walked
     requires { ⌜ Ends (now row) (now table) × MarksIn j (now marks) × (j < length (now row)) × (sameSymbol (getD (now row) j 0) s ≡ false) ⌝ }
-    ensures { λ r. ⌜ Stepping (steps (now (row .entry)) (now (table .entry)) k s j (now (marks .entry))) (now (marks .entry)) r (now (marks .exit)) ⌝ }
+    requires { ⌜ stepped (steps (now row) (now table) k s j (now marks)) ≡ Miss ⌝ }
+    ensures { λ r. ⌜ Misses (steps (now (row .entry)) (now (table .entry)) k s j (now (marks .entry))) r ⌝ }
 {
     let kind = leaf_of(s);
     match kind {
-        Leaf::Plain => Stepped::Miss(k, j),
-        Leaf::Blank => Stepped::To(table[j] as usize),
-        Leaf::Variable(i) => meet(row, i, k, j, table[j] as usize, marks),
+        Leaf::Plain => Walked::Fails(k, j),
+        Leaf::Blank => Walked::Fails(k, j),
+        Leaf::Variable(i) => differ_at(row, table, k, j, marks[i] as usize - 1),
     }
 }
 

@@ -9,7 +9,7 @@ use mathlib.Core.Bool.{Bool, true, false}
 use native.Mathlib.Omega.{arith}
 use native.Mathlib.Decide.{ℕ-discrete}
 use native.Mathlib.Numerals.{add-one}
-use borrow.Author.Tests.{eqb-true}
+use borrow.Author.Tests.{eqb-true, eq-eqb, ne-eqb}
 use lib.Dec.{eqb}
 use lib.ListN.{length, getD, take, drop, set, length-drop, length-set}
 use lib.Seq.{getD-set-same, getD-set-other}
@@ -18,9 +18,8 @@ use Rattle.rows.specs.Tree.{size}
 use Rattle.rows.specs.Parse.{first, over, parse, behind}
 use Rattle.rows.specs.Row.{symbol}
 use Rattle.rows.proofs.Entry.{behind-some}
-use Rattle.patterns.specs.Walk.{agreeing, sameFront, Outcome, Outcome.misses, Outcome.reaches, Stepping}
-use Rattle.patterns.specs.declared.Stepped.the-variants.{To, Miss}
-use Rattle.patterns.proofs.Steps.{met-first, met-same, met-other}
+use Rattle.patterns.specs.Walk.{agreeing, sameFront, Outcome.misses, Outcome.reaches}
+use Rattle.patterns.proofs.Steps.{meets-first as first-place, meets-later as later-place}
 use Rattle.plain.specs.Plain.{Spells, starts, markedLength, Lengths, Ahead, meeting, Takes, Meets}
 use Rattle.plain.specs.declared.Tried.the-variants.{Past, Through, Miss as Missed}
 use Rattle.plain.proofs.Spelling.{size-add, spells-fits, spells-next, first-some, first-within, ranked-drop}
@@ -84,15 +83,6 @@ module _ (A : List ℕ) where
           (ih (subst (λ (i : ℕ). Spells A (symbol A) i y) same (spells-on k t y r)))
 
 -- WHAT IS TOLD OF A VARIABLE
--- an answer's outcome
-pub answer-to : (o : Outcome) (ms : List ℕ) (n : ℕ) (ms′ : List ℕ) → Stepping o ms (To n) ms′ → o ≡ reaches n ms′
-answer-to (misses x y) ms n ms′ a = let e = a .answer in let z : _≡_ {A = ℕ} 0 1 = cc in absurd (omega arith)
-answer-to (reaches x v) ms n ms′ a = let e = a .answer in let z : x ≡ n = cc in ap₂ reaches z (sym (a .marks))
-
-answer-miss : (o : Outcome) (ms : List ℕ) (m n : ℕ) (ms′ : List ℕ) → Stepping o ms (Miss m n) ms′ → o ≡ misses m n
-answer-miss (misses x y) ms m n ms′ a = let e = a .answer in let place : x ≡ m = cc in let there : y ≡ n = cc in ap₂ misses place there
-answer-miss (reaches x v) ms m n ms′ a = let e = a .answer in let z : _≡_ {A = ℕ} 0 1 = cc in absurd (omega arith)
-
 module _ (A : List ℕ) (told b : ℕ) (l u ms ns : List ℕ) (h : Ahead A l u ms ns 1) (i : ℕ) where
   abbrev j : ℕ
   j = starts l u
@@ -164,7 +154,7 @@ module _ (A : List ℕ) (told b : ℕ) (l u ms ns : List ℕ) (h : Ahead A l u m
           number = refl;
           symbols = e;
           meets =
-              answer-to _ ms (j + m) (set ms i (j + 1)) (met-first l (j + m) b j ms i unmet)
+              first-place l (j + m) b j ms i unmet
               ∙ ap (λ (x : ℕ). reaches (j + x) (set ms i (j + 1))) (sym e);
           lengths = lengths-set n e small;
         })
@@ -185,8 +175,8 @@ module _ (A : List ℕ) (told b : ℕ) (l u ms ns : List ℕ) (h : Ahead A l u m
     pub place-within : a + getD ns i 0 ≤ length l
     place-within = omega (arith, marked .0, marked .1, h .marks .all i, first-within A 1 (drop a l), length-drop a l)
 
-    later : getD ms i 0 ≡ 0 → ⊥
-    later z = omega (arith, marked .0)
+    later : getD ms i 0 ≡ suc a
+    later = omega (arith, marked .0)
 
     module _ (n c : ℕ) (fewer : n ≡ min (getD ns i 0) (length u)) (counted : c ≡ agreeing l a j n) where
       compared : Parted (drop a l) (drop j l) n (getD ns i 0) m
@@ -216,7 +206,7 @@ module _ (A : List ℕ) (told b : ℕ) (l u ms ns : List ℕ) (h : Ahead A l u m
                 number = refl;
                 symbols = sym (p .0);
                 meets =
-                    answer-to _ ms (j + m) ms (met-same l (j + m) b j ms i later m (sym (p .2) ∙ ap (agreeing l a j) (sym end-is)) (sym end-is))
+                    later-place l (j + m) b j ms i a later true (eq-eqb _ _ (ap (agreeing l a j) end-is ∙ p .2 ∙ sym end-is))
                     ∙ ap (λ (x : ℕ). reaches (j + x) ms) (p .0);
                 lengths = h .lengths;
               })
@@ -227,8 +217,8 @@ module _ (A : List ℕ) (told b : ℕ) (l u ms ns : List ℕ) (h : Ahead A l u m
           other : (agreeing l a j n < getD ns i 0) × (agreeing l a j n < m) × (agreeing l a j m ≡ agreeing l a j n) → Meets A told b l u ms i (Missed b (j + c)) ms ns
           other p =
               let there : meeting A b l u ms i ≡ misses b (j + c) =
-              answer-miss _ ms b (j + c) ms
-              (met-other l (j + m) b j ms i later c (counted ∙ sym (p .2) ∙ ap (agreeing l a j) (sym end-is)) (λ z. omega (arith, z, end-is, counted, p .1))) in
+              later-place l (j + m) b j ms i a later false (ne-eqb (agreeing l a j (j + m - j)) (j + m - j) (λ z. omega (arith, z, ap (agreeing l a j) end-is, end-is, p .1, p .2)))
+              ∙ ap (λ (x : ℕ). misses b (j + x)) (ap (agreeing l a j) end-is ∙ p .2 ∙ sym counted) in
               record {
                 past = λ x y e. (let z : _≡_ {A = ℕ} 0 1 = cc in absurd (omega arith));
                 through = λ e. (let z : _≡_ {A = ℕ} 0 1 = cc in absurd (omega arith));

@@ -1,4 +1,4 @@
--- The checks that find and the plain matcher share: with the table that build leaves they refuse the same up to 15.
+-- The checks that find and the plain matcher share: with the table and the classes that build leaves they refuse the same up to 15.
 -- Assumes nothing.
 use Prim.Native.Nat.{ℕ, _+_, _≤_}
 use mathlib.Core.Path.{_≡_, refl, sym, ap, ap₂, _∙_}
@@ -10,26 +10,26 @@ use lib.Seq.{take-all}
 use Rattle.rows.specs.Limits.{rowMost}
 use Rattle.rows.specs.Programme.{Alphabet, Programme, room}
 use Rattle.rows.specs.Parse.{table}
+use Rattle.rows.specs.Classes.{classes}
 use Rattle.rows.specs.Row.{sized, verdict, allowed, orElse, reading}
 use Rattle.rows.specs.Buffers.{written, after}
-use Rattle.rows.specs.Refusals.{_then_, asKept, alphabet, sizes, symbols, fresh, kept, given, pattern, position}
+use Rattle.rows.specs.Refusals.{_then_, asKept, alphabet, sizes, symbols, fresh, classed, kept, given, pattern, position}
 use Rattle.rows.specs.declared.Leaves.the-variants.{Symbols}
 use Rattle.rows.specs.declared.Verdict.{Verdict}
 use Rattle.rows.specs.declared.Verdict.the-variants.{Whole, Faulty}
 use Rattle.rows.specs.declared.Kept.{Kept}
+use Rattle.rows.specs.declared.Kept.the-variants.{Stale, Misclassed}
 use Rattle.rows.specs.declared.Refusal.{Refusal}
 use Rattle.rows.specs.declared.Refusal.the-variants.{Row}
 use Rattle.rows.specs.declared.Check.{Check}
 use Rattle.rows.specs.declared.Check.the-variants.{Fine, Refused}
 use Rattle.rows.proofs.Entry.{length-table}
 use Rattle.rows.proofs.Buffers.{length-written}
-use Rattle.tables.proofs.Differ.{differs-same}
+use Rattle.rows.proofs.Classes.{class-of-row}
+use Rattle.rows.proofs.Differ.{differs-same}
+use Rattle.rows.proofs.Passing.{then-assoc}
 use Rattle.checks.specs.Checks.{buildCheck, plainCheck, searchCheck}
 use Rattle.sparrowhem.specs.Build.{built, Built}
-
-pub then-then : (a b c : Check) → _then_ (_then_ a b) c ≡ a then b then c
-then-then Fine b c = refl
-then-then (Refused r) b c = refl
 
 pub then-fine : (a : Check) → _then_ a Fine ≡ a
 then-fine Fine = refl
@@ -56,17 +56,20 @@ pub build-row : (a : Alphabet) (P : Programme) → length (P .row) ≤ room P �
 unfolding buildCheck
 build-row a P h = ap (λ (c : Check). alphabet a then c) (row-alone (a .arities) (P .row) (room P) h)
 
-pub given-row : (a : Alphabet) (P : Programme) → length (P .row) ≤ room P
-    → given a P (length (P .row)) ≡ rowCheck a (P .row) then fresh Row (a .arities) (P .row) (P .table)
+-- 10 and 62: what is kept beside the row
+abbrev pub besideCheck : Alphabet → Programme → Check
+besideCheck a P = fresh Row (a .arities) (P .row) (P .table) then classed Row (a .arities) (P .row) (P .classes)
+
+pub given-row : (a : Alphabet) (P : Programme) → length (P .row) ≤ room P → given a P (length (P .row)) ≡ rowCheck a (P .row) then besideCheck a P
 unfolding given kept
 given-row a P h =
     let A : List ℕ = a .arities in
     let w : List ℕ = P .row in
-    ap (λ (l : List ℕ). alphabet a then sizes Row (length w) (room P) then symbols Row A l then fresh Row A l (P .table)) (take-all (length w) w (omega arith))
+    ap (λ (l : List ℕ). alphabet a then sizes Row (length w) (room P) then symbols Row A l then fresh Row A l (P .table) then classed Row A l (P .classes)) (take-all (length w) w (omega arith))
     ∙ ap (λ (c : Check). alphabet a then c)
-    (sym (then-then (sizes Row (length w) (room P)) (symbols Row A w) (fresh Row A w (P .table)))
-    ∙ ap (λ (c : Check). c then fresh Row A w (P .table)) (row-alone A w (room P) h))
-    ∙ sym (then-then (alphabet a) (asKept Row (reading A Symbols rowMost w)) (fresh Row A w (P .table)))
+    (sym (then-assoc (sizes Row (length w) (room P)) (symbols Row A w) (besideCheck a P))
+    ∙ ap (λ (c : Check). c then besideCheck a P) (row-alone A w (room P) h))
+    ∙ sym (then-assoc (alphabet a) (asKept Row (reading A Symbols rowMost w)) (besideCheck a P))
 
 -- the lists that build leaves of such as are long enough
 module _ (a : Alphabet) (old : Programme) (build : Check) (P : Programme) (long : length (old .row) ≤ room old) (b : Built a old build P) where
@@ -82,7 +85,7 @@ module _ (a : Alphabet) (old : Programme) (build : Check) (P : Programme) (long 
   left : P ≡ after (rowCheck a w) (built a old) old
   left = b .lists ∙ ap (λ (c : Check). after c (built a old) old) checked
 
-  -- the row stays, and the table keeps its length
+  -- the row stays
   pub left-row : P .row ≡ w
   left-row = go (rowCheck a w) left
     where
@@ -91,7 +94,7 @@ module _ (a : Alphabet) (old : Programme) (build : Check) (P : Programme) (long 
       go (Refused x) e = ap (λ (x : Programme). x .row) e
 
   pub given-left : given a P (length (P .row)) ≡ rowCheck a (P .row)
-  unfolding fresh written
+  unfolding fresh classed written
   given-left = go (rowCheck a w) refl left
     where
       row-too : rowCheck a (P .row) ≡ rowCheck a w
@@ -100,16 +103,22 @@ module _ (a : Alphabet) (old : Programme) (build : Check) (P : Programme) (long 
       go : (c : Check) → rowCheck a w ≡ c → P ≡ after c (built a old) old → given a P (length (P .row)) ≡ rowCheck a (P .row)
       go Fine e is =
           let table-is : P .table ≡ written (old .table) 0 (table A w) = ap (λ (x : Programme). x .table) is in
+          let classes-are : P .classes ≡ written (old .classes) 0 (classes A w) = ap (λ (x : Programme). x .classes) is in
           let same : length (P .table) ≡ length (old .table) =
           ap length table-is ∙ length-written (old .table) 0 (table A w) (omega (arith, length-table A w)) in
+          let same-too : length (P .classes) ≡ length (old .classes) =
+          ap length classes-are ∙ length-written (old .classes) 0 (classes A w) (omega (arith, class-of-row A w .0)) in
           let row-long = ap length left-row in
-          given-row a P (omega arith)
-          ∙ ap₂ _then_ (row-too ∙ e) (ap₂ (fresh Row A) left-row table-is ∙ differs-same Row 0 (table A w) (drop (0 + length (table A w)) (old .table)))
-          ∙ sym (row-too ∙ e)
+          let ends-fine : fresh Row A (P .row) (P .table) ≡ Fine =
+          ap₂ (fresh Row A) left-row table-is ∙ differs-same (λ k. Row (Stale k)) 0 (table A w) (drop (0 + length (table A w)) (old .table)) in
+          let classes-fine : classed Row A (P .row) (P .classes) ≡ Fine =
+          ap₂ (classed Row A) left-row classes-are ∙ differs-same (λ k. Row (Misclassed k)) 0 (classes A w) (drop (0 + length (classes A w)) (old .classes)) in
+          given-row a P (omega arith) ∙ ap₂ _then_ (row-too ∙ e) (ap₂ _then_ ends-fine classes-fine) ∙ sym (row-too ∙ e)
       go (Refused x) e is =
           let same : length (P .table) ≡ length (old .table) = ap (λ (x : Programme). length (x .table)) is in
+          let same-too : length (P .classes) ≡ length (old .classes) = ap (λ (x : Programme). length (x .classes)) is in
           let row-long = ap length left-row in
-          given-row a P (omega arith) ∙ ap (λ (c : Check). c then fresh Row A (P .row) (P .table)) (row-too ∙ e) ∙ sym (row-too ∙ e)
+          given-row a P (omega arith) ∙ ap (λ (c : Check). c then besideCheck a P) (row-too ∙ e) ∙ sym (row-too ∙ e)
 
   -- what both look at first
   pub search-left : (q : List ℕ) → searchCheck a P q ≡ rowCheck a (P .row) then pattern A q
@@ -121,4 +130,4 @@ unfolding plainCheck
 plain-left a w q p =
     let row : Check = asKept Row (reading (a .arities) Symbols rowMost w) in
     let rest : Check = position (length w) p in
-    sym (then-then (alphabet a) row (pattern (a .arities) q then rest)) ∙ sym (then-then (rowCheck a w) (pattern (a .arities) q) rest)
+    sym (then-assoc (alphabet a) row (pattern (a .arities) q then rest)) ∙ sym (then-assoc (rowCheck a w) (pattern (a .arities) q) rest)

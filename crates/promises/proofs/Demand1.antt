@@ -12,18 +12,22 @@ use lib.ListN.{length, getD, length-take}
 use Rattle.rows.specs.Programme.{Alphabet, Programme, programme, room, front}
 use Rattle.rows.specs.Tree.{Forest, size}
 use Rattle.rows.specs.Parse.{table}
+use Rattle.rows.specs.Classes.{classes}
 use Rattle.rows.specs.Limits.{rowMost, spanPlaces}
 use Rattle.rows.specs.Row.{pick, sized, verdict, allowed}
 use Rattle.rows.specs.declared.Leaves.the-variants.{Symbols}
 use Rattle.rows.specs.declared.Kept.{Kept}
+use Rattle.rows.specs.declared.Kept.the-variants.{Stale}
 use Rattle.rows.specs.Buffers.{written, after, One}
-use Rattle.rows.specs.Refusals.{_then_, asKept, alphabet, sizes, symbols, kept, given, pattern, replacement, position, grown, output}
+use Rattle.rows.specs.Refusals.{_then_, asKept, alphabet, sizes, symbols, fresh, classed, kept, given, pattern, replacement, position, grown, output}
 use Rattle.rows.specs.declared.Refusal.{Refusal}
 use Rattle.rows.specs.declared.Refusal.the-variants.{Row, OnRecord as RecordRow, OutputShort}
 use Rattle.rows.specs.declared.Check.{Check}
 use Rattle.rows.specs.declared.Check.the-variants.{Fine, Refused}
 use Rattle.rows.proofs.Entry.{length-table}
-use Rattle.rows.proofs.Passing.{Fits, both-fine, row-fine, sizes-fits, position-fine, below}
+use Rattle.rows.proofs.Classes.{class-of-row}
+use Rattle.rows.proofs.Differ.{differs-whole}
+use Rattle.rows.proofs.Passing.{Fits, both-fine, then-assoc, row-fine, sizes-fits, position-fine, below}
 use Rattle.refusal_numbers.specs.Table.{Refuses}
 use Rattle.refusal_numbers.proofs.Table.{table as table-of-refusals}
 use Rattle.patterns.specs.Searchable.{Checked}
@@ -49,11 +53,11 @@ use Rattle.sparrowhem.specs.declared.matcher.Fits.{Fits as Fitting}
 use Rattle.sparrowhem.specs.declared.matcher.Fits.the-variants.{Yes, No, Refused as PlainRefused}
 use Rattle.sparrowhem.proofs.Preferring.{one-answer}
 use Rattle.sparrowhem.proofs.Searching.{finds-list}
-use Rattle.promises.specs.Demands.{Build-one, Find-one, Variables-one, Replace-one, Subtree-one, Subtree-place-one, Newer-one, Newer-place-one, Plain-one, Build-order, Find-order, Variables-order, Replace-order, Subtree-order, Newer-order, Plain-order, Find-short, Build-refused, Find-refused, Variables-refused, Replace-refused, StaleAt, Find-stale, Variables-stale, Replace-stale, Subtree-stale, Newer-stale, Newer-refused}
+use Rattle.promises.specs.Demands.{Build-one, Find-one, Variables-one, Replace-one, Subtree-one, Subtree-place-one, Newer-one, Newer-place-one, Plain-one, Build-order, Find-order, Variables-order, Replace-order, Subtree-order, Newer-order, Plain-order, Find-short, Build-refused, Find-refused, Variables-refused, Replace-refused, MisclassedAt, WrongBeside, Find-stale, Variables-stale, Replace-stale, Subtree-stale, Newer-stale, Newer-refused}
 use Rattle.promises.proofs.Said.{apart, refusal-said, check-said, found-said, bound-said, answered-said, placed-said, check-refusal, found-refusal, bound-refusal, replaced-refusal, newest-refusal, fits-refusal}
 use Rattle.promises.proofs.Calls.{build-settled, find-settled, variables-settled, replace-settled, lies-settled, newer-settled, newer-place-settled, plain-settled, build-kept, find-kept, variables-kept}
 use Rattle.promises.proofs.Agreeing.{rowCheck, left-row, search-left, plain-left}
-use Rattle.promises.proofs.Holding.{stayed}
+use Rattle.promises.proofs.Holding.{begins, stayed}
 
 -- ---- one outcome
 
@@ -207,20 +211,21 @@ newer-place-one a P O q corrected older =
     newest-place Nowhere = lies-one corrected 0
     newest-place (NewestRefused r) = lies-one corrected 0
 
--- a row that the plain matcher does not refuse can be searched with its own table
+-- a row that the plain matcher does not refuse can be searched with its own table and its own classes
 pub plain-checked : (a : Alphabet) (w q : List ℕ) (p : ℕ) → plainCheck a w q p ≡ Fine
-    → (t : List ℕ) × Checked a (programme w t) q × (p < length w)
+    → (t : List ℕ) × (c : List ℕ) × Checked a (programme w t c) q × (p < length w)
 plain-checked a w q p e =
-    let old : Programme = programme w (table (a .arities) w) in
+    let old : Programme = programme w (table (a .arities) w) (classes (a .arities) w) in
     let b = build-one a old in
     let left : Programme = b .some .1 in
-    let long : length w ≤ room old = omega (arith, length-table (a .arities) w) in
+    let long : length w ≤ room old = omega (arith, length-table (a .arities) w, class-of-row (a .arities) w .0) in
     let both = both-fine (rowCheck a w then pattern (a .arities) q) (position (length w) p) (sym (plain-left a w q p) ∙ e) in
     let same = left-row a old (b .some .0) left long (b .holds) in
     let fine : searchCheck a left q ≡ Fine =
     search-left a old (b .some .0) left long (b .holds) q ∙ ap (λ (l : List ℕ). rowCheck a l then pattern (a .arities) q) same ∙ both .0 in (
       left .table,
-      subst (λ (l : List ℕ). Checked a (programme l (left .table)) q) same (search-checked a left q fine),
+      left .classes,
+      subst (λ (l : List ℕ). Checked a (programme l (left .table) (left .classes)) q) same (search-checked a left q fine),
       position-fine (length w) p (both .1),
     )
 
@@ -229,7 +234,7 @@ plain-some a w q p = go (plainCheck a w q p) refl
   where
     go : (c : Check) → plainCheck a w q p ≡ c → (r : Fitting) × PlainSays a w q p r
     go (Refused x) e = (PlainRefused x, e)
-    go Fine e = let c = plain-checked a w q p e in tells (comesThrough w (table (a .arities) w) q p) refl (walk-right a (programme w (c .0)) q (c .1) p (c .2))
+    go Fine e = let c = plain-checked a w q p e in tells (comesThrough w (table (a .arities) w) q p) refl (walk-right a (programme w (c .0) (c .1)) q (c .2) p (c .3))
       where
         tells : (b : Bool) → comesThrough w (table (a .arities) w) q p ≡ b → (comesThrough w (table (a .arities) w) q p ≡ true) ↔ MatchesAt a w q p
             → (r : Fitting) × PlainSays a w q p r
@@ -314,69 +319,103 @@ variables-refused a P q p y r y′ f k x e = let z = bound-refusal r k x e in va
 pub replace-refused : Replace-refused
 replace-refused a P n v p r P′ o k x e = let z = replaced-refusal r k x e in stayed a P n v p P′ (z .0) (subst (λ (c : Replaced). Replacement a P n v p c P′) (z .1) o)
 
--- ---- a stale table
-
--- the chain from 1 to 10 refuses a stale table, whatever comes behind it
--- 6 leaves a table with room for the row
-stale-room : (a : Alphabet) (P : Programme) (n p : ℕ) → StaleAt a P n p → length (front n P .row) ≤ length (P .table)
-stale-room a P n p s =
-    let x = both-fine (alphabet a) (sizes Row n (room P) then symbols Row (a .arities) (front n P .row)) (s .earlier) in
-    let fits = sizes-fits Row n (room P) (both-fine (sizes Row n (room P)) (symbols Row (a .arities) (front n P .row)) (x .1) .0) in
-    omega (arith, fits .room, length-take n (P .row))
-
-stale-given : (a : Alphabet) (P : Programme) (n p : ℕ) → StaleAt a P n p → Refuses (given a P n) 10 p
-unfolding given kept
-stale-given a P n p s =
-    let A : List ℕ = a .arities in
-    let w : List ℕ = front n P .row in
-    let x = both-fine (alphabet a) (sizes Row n (room P) then symbols Row A w) (s .earlier) in
-    let y = both-fine (sizes Row n (room P)) (symbols Row A w) (x .1) in
-    rw (x .0, y .0, y .1) (table-of-refusals .stale A w (P .table) 10 p (stale-room a P n p s) .1 (refl, s .first))
-
-on-refuses : (c d : Check) (k x : ℕ) → Refuses c k x → Refuses (c then d) k x
-on-refuses c d k x h = table-of-refusals .order c d k x .1 (inl h)
-
-stale-search : (a : Alphabet) (P : Programme) (q : List ℕ) (p : ℕ) → StaleAt a P (length (P .row)) p → Refuses (searchCheck a P q) 10 p
-unfolding searchCheck
-stale-search a P q p s = on-refuses (given a P (length (P .row))) (pattern (a .arities) q) 10 p (stale-given a P (length (P .row)) p s)
-
-pub find-stale : Find-stale
-unfolding findCheck
-find-stale a P q y r y′ p f s =
-    find-order a P q y r y′ f 10 p .1 (on-refuses (searchCheck a P q) (output (length (f .positions)) (length y)) 10 p (stale-search a P q p s))
-
-pub variables-stale : Variables-stale
-unfolding variablesCheck
-variables-stale a P q k y r y′ p b s =
-    variables-order a P q k y r y′ b 10 p .1
-    (on-refuses (searchCheck a P q) (position (length (P .row)) k then output spanPlaces (length y)) 10 p (stale-search a P q p s))
-
-pub replace-stale : Replace-stale
-unfolding replaceCheck
-replace-stale a P n v k r P′ p o s =
-    replace-order a P n v k r P′ o 10 p .1
-    (on-refuses (given a P n) (replacement (a .arities) v then position n k then grown (size (newTree a P n v k)) (room P)) 10 p (stale-given a P n p s))
-
-pub subtree-stale : Subtree-stale
-unfolding subtreeCheck
-subtree-stale a P k p s = subtree-order a P k 10 p .1 (on-refuses (given a P (length (P .row))) (position (length (P .row)) k) 10 p (stale-given a P (length (P .row)) p s))
+-- ---- what is kept is not the row's
 
 -- what is left of 4 to 6 holds whose row it is
 pub sizes-fine : (whose : Kept → Refusal) (n m : ℕ) → Fits n m → sizes whose n m ≡ Fine
 unfolding sizes sized
 sizes-fine whose n m f = simp (le-ltb n 1 (f .some), le-ltb rowMost n (f .most), le-ltb m n (f .room))
 
--- the row on record is refused likewise
-stale-record : (a : Alphabet) (O : Programme) (n p : ℕ) → StaleAt a O n p → Refuses (kept RecordRow a O n) 50 p
-unfolding kept symbols
-stale-record a O n p s =
-    let A : List ℕ = a .arities in
-    let w : List ℕ = front n O .row in
-    let x = both-fine (alphabet a) (sizes Row n (room O) then symbols Row A w) (s .earlier) in
-    let y = both-fine (sizes Row n (room O)) (symbols Row A w) (x .1) in
-    let whole = ap (asKept RecordRow) (row-fine Row (verdict A (allowed Symbols A) 1 0 w) (y .1)) in
-    rw (sizes-fine RecordRow n (room O) (sizes-fits Row n (room O) (y .0)), whole)
-    (table-of-refusals .on-record-stale A w (O .table) 50 p (stale-room a O n p s) .1 (refl, s .first))
+on-refuses : (c d : Check) (k x : ℕ) → Refuses c k x → Refuses (c then d) k x
+on-refuses c d k x h = table-of-refusals .order c d k x .1 (inl h)
+
+module _ (a : Alphabet) (P : Programme) (n : ℕ) where
+  abbrev A : List ℕ
+  A = a .arities
+
+  abbrev w : List ℕ
+  w = front n P .row
+
+  -- where 1 to 9 refuse nothing
+  record Read : Type 0 where
+    alphabet-fine : alphabet a ≡ Fine
+    sizes-fit : sizes Row n (room P) ≡ Fine
+    symbols-fine : symbols Row A w ≡ Fine
+    table-room : length w ≤ length (P .table)
+    class-room : length w ≤ length (P .classes)
+
+  read-to : alphabet a then sizes Row n (room P) then symbols Row A w ≡ Fine → Read
+  read-to e =
+      let x = both-fine (alphabet a) (sizes Row n (room P) then symbols Row A w) e in
+      let y = both-fine (sizes Row n (room P)) (symbols Row A w) (x .1) in
+      let fits = sizes-fits Row n (room P) (y .0) in
+      record {
+        alphabet-fine = x .0;
+        sizes-fit = y .0;
+        symbols-fine = y .1;
+        table-room = omega (arith, fits .room, length-take n (P .row));
+        class-room = omega (arith, fits .room, length-take n (P .row));
+      }
+
+  -- and 10 neither
+  entered : (p : ℕ) → MisclassedAt a P n p → Read × (fresh Row A w (P .table) ≡ Fine)
+  entered p s =
+      let b : Check = fresh Row A w (P .table) in
+      let x = both-fine (alphabet a then sizes Row n (room P) then symbols Row A w) b
+      (then-assoc (alphabet a) (sizes Row n (room P) then symbols Row A w) b ∙ ap (λ (c : Check). alphabet a then c) (then-assoc (sizes Row n (room P)) (symbols Row A w) b) ∙ s .earlier) in
+      (read-to (x .0), x .1)
+
+  -- the chain of checks refuses it, whatever comes behind it
+  wrong-given : (k p : ℕ) → WrongBeside a P n k p → Refuses (given a P n) k p
+  unfolding given kept
+  wrong-given k p (inl s) =
+      let r = read-to (s .1 .earlier) in
+      rw (r .alphabet-fine, r .sizes-fit, r .symbols-fine)
+      (on-refuses (fresh Row A w (P .table)) (classed Row A w (P .classes)) k p (table-of-refusals .stale A w (P .table) k p (r .table-room) .1 (s .0, s .1 .first)))
+  wrong-given k p (inr s) =
+      let r = entered p (s .1) in
+      rw (r .0 .alphabet-fine, r .0 .sizes-fit, r .0 .symbols-fine, r .1) (table-of-refusals .misclassed A w (P .classes) k p (r .0 .class-room) .1 (s .0, s .1 .first))
+
+  -- that of the row on record likewise
+  wrong-record : (k p : ℕ) → WrongBeside a P n k p → Refuses (kept RecordRow a P n) (40 + k) p
+  unfolding kept symbols fresh
+  wrong-record k p (inl s) =
+      let r = read-to (s .1 .earlier) in
+      let whole = ap (asKept RecordRow) (row-fine Row (verdict A (allowed Symbols A) 1 0 w) (r .symbols-fine)) in
+      rw (sizes-fine RecordRow n (room P) (sizes-fits Row n (room P) (r .sizes-fit)), whole)
+      (on-refuses (fresh RecordRow A w (P .table)) (classed RecordRow A w (P .classes)) (40 + k) p
+      (table-of-refusals .on-record-stale A w (P .table) (40 + k) p (r .table-room) .1 (ap (λ (j : ℕ). 40 + j) (s .0), s .1 .first)))
+  wrong-record k p (inr s) =
+      let r = entered p (s .1) in
+      let whole = ap (asKept RecordRow) (row-fine Row (verdict A (allowed Symbols A) 1 0 w) (r .0 .symbols-fine)) in
+      let ends-fine = begins (λ j. RecordRow (Stale j)) (length (table A w)) (table A w) (P .table) (differs-whole (λ j. Row (Stale j)) 0 (table A w) (P .table) (r .1)) in
+      rw (sizes-fine RecordRow n (room P) (sizes-fits Row n (room P) (r .0 .sizes-fit)), whole, ends-fine)
+      (table-of-refusals .on-record-misclassed A w (P .classes) (40 + k) p (r .0 .class-room) .1 (ap (λ (j : ℕ). 40 + j) (s .0), s .1 .first))
+
+wrong-search : (a : Alphabet) (P : Programme) (q : List ℕ) (k p : ℕ) → WrongBeside a P (length (P .row)) k p → Refuses (searchCheck a P q) k p
+unfolding searchCheck
+wrong-search a P q k p s = on-refuses (given a P (length (P .row))) (pattern (a .arities) q) k p (wrong-given a P (length (P .row)) k p s)
+
+pub find-stale : Find-stale
+unfolding findCheck
+find-stale a P q y r y′ k p f s =
+    find-order a P q y r y′ f k p .1 (on-refuses (searchCheck a P q) (output (length (f .positions)) (length y)) k p (wrong-search a P q k p s))
+
+pub variables-stale : Variables-stale
+unfolding variablesCheck
+variables-stale a P q x y r y′ k p b s =
+    variables-order a P q x y r y′ b k p .1
+    (on-refuses (searchCheck a P q) (position (length (P .row)) x then output spanPlaces (length y)) k p (wrong-search a P q k p s))
+
+pub replace-stale : Replace-stale
+unfolding replaceCheck
+replace-stale a P n v x r P′ k p o s =
+    replace-order a P n v x r P′ o k p .1
+    (on-refuses (given a P n) (replacement (a .arities) v then position n x then grown (size (newTree a P n v x)) (room P)) k p (wrong-given a P n k p s))
+
+pub subtree-stale : Subtree-stale
+unfolding subtreeCheck
+subtree-stale a P x k p s = subtree-order a P x k p .1 (on-refuses (given a P (length (P .row))) (position (length (P .row)) x) k p (wrong-given a P (length (P .row)) k p s))
 
 pub newer-refused : Newer-refused
 unfolding newerCheck
@@ -384,7 +423,7 @@ newer-refused a P O q r k x h z = newer-order a P O q r h k x .1 (on-refuses (gi
 
 pub newer-stale : Newer-stale
 unfolding newerCheck
-newer-stale a P O q r p h = (
-  λ s. newer-refused a P O q r 10 p h (stale-given a P (length (P .row)) p s),
-  λ e s. newer-order a P O q r h 50 p .1 (rw e (on-refuses (kept RecordRow a O (length (O .row))) (pattern (a .arities) q) 50 p (stale-record a O (length (O .row)) p s))),
+newer-stale a P O q r k p h = (
+  λ s. newer-refused a P O q r k p h (wrong-given a P (length (P .row)) k p s),
+  λ e s. newer-order a P O q r h (40 + k) p .1 (rw e (on-refuses (kept RecordRow a O (length (O .row))) (pattern (a .arities) q) (40 + k) p (wrong-record a O (length (O .row)) k p s))),
 )

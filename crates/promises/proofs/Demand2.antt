@@ -13,6 +13,7 @@ use Rattle.rows.specs.Limits.{patternMost, spanPlaces, variables}
 use Rattle.rows.specs.Programme.{Alphabet, Programme, room}
 use Rattle.rows.specs.Tree.{IsRow}
 use Rattle.rows.specs.Parse.{table}
+use Rattle.rows.specs.Classes.{FirstEqual, classesOf, classes}
 use Rattle.rows.specs.Row.{symbol, verdict, allowed, reading}
 use Rattle.rows.specs.Buffers.{written}
 use Rattle.rows.specs.Refusals.{_then_, asKept, asPattern, sizes, symbols, pattern}
@@ -27,7 +28,8 @@ use Rattle.rows.proofs.Entry.{length-table}
 use Rattle.rows.proofs.Passing.{clash, row-fine, pattern-fine}
 use Rattle.rows.proofs.Scan.{sized-whole}
 use Rattle.rows.specs.Promises.{Entry}
-use Rattle.rows.proofs.Promises.{reads-rows, table-of-row, entry-of-table}
+use Rattle.rows.proofs.Promises.{reads-rows, tree-of-row, table-of-row, entry-of-table}
+use Rattle.rows.proofs.Classes.{class-of-row}
 use Rattle.refusal_numbers.specs.Numbers.{number, place}
 use Rattle.patterns.specs.Answers.{MatchesAt, facing, spans, Has, Spanned}
 use Rattle.patterns.specs.Searchable.{Checked}
@@ -100,6 +102,7 @@ build-accepts a P r P′ b alpha size = (to, from)
     from x = ap checkSaid (only ∙ rows-accepted (a .arities) (P .row) .1 x)
 
 pub build-writes : Build-writes
+unfolding classes
 build-writes a P r P′ b e x =
     let A : List ℕ = a .arities in
     let w : List ℕ = P .row in
@@ -108,6 +111,11 @@ build-writes a P r P′ b e x =
     let long = length-table A w in
     let front : take (length w) (P′ .table) ≡ table A w =
     ap (take (length w)) table-now ∙ ap (λ (n : ℕ). take n (written (P .table) 0 (table A w))) (sym long) ∙ written-front (P .table) (table A w) in
+    let classes-now : P′ .classes ≡ written (P .classes) 0 (classes A w) = ap (λ (y : Programme). y .classes) now in
+    let many = class-of-row A w .0 in
+    let classes-front : take (length w) (P′ .classes) ≡ classes A w =
+    ap (take (length w)) classes-now ∙ ap (λ (n : ℕ). take n (written (P .classes) 0 (classes A w))) (sym many) ∙ written-front (P .classes) (classes A w) in
+    let tree = tree-of-row A (symbol A) w x .0 in
     record {
       table-is = front ∙ table-of-row A (allowed Symbols A) w x;
       entry-is =
@@ -119,6 +127,16 @@ build-writes a P r P′ b e x =
           ∙ ap (λ (n : ℕ). drop n (written (P .table) 0 (table A w))) (sym long)
           ∙ written-behind (P .table) (table A w)
           ∙ ap (λ (n : ℕ). drop n (P .table)) long;
+      classes-are = classes-front ∙ ap classesOf tree;
+      class-is =
+          λ p h. subst₂ (λ f k. FirstEqual f p k) tree
+          (ap (λ (l : List ℕ). getD l p 0) (sym classes-front) ∙ getD-take (length w) (P′ .classes) p 0 h)
+          (class-of-row A w .1 p h .0);
+      classes-later =
+          ap (drop (length w)) classes-now
+          ∙ ap (λ (n : ℕ). drop n (written (P .classes) 0 (classes A w))) (sym many)
+          ∙ written-behind (P .classes) (classes A w)
+          ∙ ap (λ (n : ℕ). drop n (P .classes)) many;
       row-stays = ap (λ (y : Programme). y .row) now;
     }
 

@@ -15,8 +15,9 @@ use Rattle.rows.specs.Limits.{spanPlaces}
 use Rattle.rows.specs.Programme.{Alphabet, Programme, programme, room, front, cut}
 use Rattle.rows.specs.Tree.{Forest, size, prefix, ends, subtreeAt}
 use Rattle.rows.specs.Parse.{parse, treeOf}
+use Rattle.rows.specs.Classes.{classesOf}
 use Rattle.rows.specs.Row.{pick, symbol, sized}
-use Rattle.rows.specs.Refusals.{_then_, alphabet, sizes, symbols, fresh, kept, given, pattern, position, output}
+use Rattle.rows.specs.Refusals.{_then_, alphabet, sizes, symbols, fresh, classed, kept, given, pattern, position, output}
 use Rattle.rows.specs.declared.Refusal.{Refusal}
 use Rattle.rows.specs.declared.Refusal.the-variants.{Row}
 use Rattle.rows.specs.declared.Check.{Check}
@@ -24,6 +25,7 @@ use Rattle.rows.specs.declared.Check.the-variants.{Fine, Refused}
 use Rattle.rows.proofs.Tree.{length-prefix}
 use Rattle.rows.proofs.Parse.{size-parse}
 use Rattle.rows.proofs.Passing.{both-fine, sizes-fits, below}
+use Rattle.rows.proofs.Buffers.{same-programme}
 use Rattle.rows.proofs.Promises.{tree-of-row}
 use Rattle.tables.proofs.Given.{right-entry, given-right}
 use Rattle.patterns.specs.Answers.{MatchesAt, spans}
@@ -46,7 +48,7 @@ use Rattle.promises.specs.Runs.{edits}
 use Rattle.promises.specs.Demands.{movedSpan, Replace-writes, After-run, Beside, Variables-stay, Find-stays, Plain-stays, Putting-back, Either-order}
 use Rattle.promises.proofs.Said.{fine-said, matched-said, done-said}
 use Rattle.promises.proofs.Calls.{build-fine, variables-matched, plain-settled}
-use Rattle.promises.proofs.Agreeing.{then-fine, rowCheck, given-row, plain-left}
+use Rattle.promises.proofs.Agreeing.{then-fine, rowCheck, besideCheck, given-row, plain-left}
 use Rattle.promises.proofs.Holding.{Holds, went, holds-changed, built-holds}
 use Rattle.promises.proofs.Spanning.{map-same}
 use Rattle.promises.proofs.Edits.{went-written, entries, patterns-stay, run-holds, put-straight-back, old-symbols, swapped}
@@ -74,11 +76,11 @@ front-given a P n e =
     let long : length w ≡ n = length-take-le n (P .row) (omega (arith, h .fits)) in
     let sized : sizes Row (length w) (room (front n P)) ≡ Fine =
     sizes-fine Row (length w) (room (front n P)) (record { some = omega (arith, h .some); most = omega (arith, h .most); room = omega (arith, h .fits) }) in
-    let rest = both-fine (sizes Row n (room P)) (symbols Row A w then fresh Row A w (P .table)) (x .1) .1 in
+    let rest = both-fine (sizes Row n (room P)) (symbols Row A w then fresh Row A w (P .table) then classed Row A w (P .classes)) (x .1) .1 in
     let all : take (length w) w ≡ w = take-all (length w) w (omega arith) in
     rw (x .0, sized, all) rest
 
--- a fresh build of what is held accepts it and gives its table
+-- a fresh build of what is held accepts it and gives its table and its classes
 fresh-built : (a : Alphabet) (P : Programme) (n : ℕ) (f : Forest) → Holds a P n f
     → (T : Programme) (r : Check) (T′ : Programme) → T .row ≡ take n (P .row) → n ≤ room T → Built a T r T′
     → (checkSaid r ≡ gives []) × (cut n P ≡ cut n T′)
@@ -87,8 +89,9 @@ fresh-built a P n f h T r T′ is enough b =
     let A : List ℕ = a .arities in
     let w : List ℕ = take n (P .row) in
     let x = both-fine (alphabet a) (kept Row a P n) (h .fine) in
-    let y = both-fine (sizes Row n (room P)) (symbols Row A w then fresh Row A w (P .table)) (x .1) in
-    let whole = both-fine (symbols Row A w) (fresh Row A w (P .table)) (y .1) .0 in
+    let beside : Check = fresh Row A w (P .table) then classed Row A w (P .classes) in
+    let y = both-fine (sizes Row n (room P)) (symbols Row A w then beside) (x .1) in
+    let whole = both-fine (symbols Row A w) beside (y .1) .0 in
     let fits = sizes-fits Row n (room P) (y .0) in
     let long : length (T .row) ≡ n = ap length is ∙ length-take-le n (P .row) (omega (arith, fits .room)) in
     let sized : sizes Row (length (T .row)) (room T) ≡ Fine =
@@ -97,11 +100,12 @@ fresh-built a P n f h T r T′ is enough b =
     let accepted : r ≡ Fine = b .answer ∙ fine in
     let now = build-fine a T T′ (subst (λ (c : Check). Built a T c T′) accepted b) in
     let rows : T′ .row ≡ take n (P .row) = ap (λ (x : Programme). x .row) now ∙ is in
-    let same : front n T′ ≡ T′ = ap (λ (l : List ℕ). programme l (T′ .table)) (ap (take n) rows ∙ take-take n n (P .row) (omega arith) ∙ sym rows) in
+    let same : front n T′ ≡ T′ = ap (λ (l : List ℕ). programme l (T′ .table) (T′ .classes)) (ap (take n) rows ∙ take-take n n (P .row) (omega arith) ∙ sym rows) in
     let held = built-holds a T T′ n (subst (Built a T Fine) (sym same) (subst (λ (c : Check). Built a T c T′) accepted b)) long in (
       ap checkSaid accepted,
-      ap₂ programme (sym (ap (take n) rows ∙ take-take n n (P .row) (omega arith)))
-          (h .table-is ∙ ap (ends 0) (sym (h .tree) ∙ ap (parse A) (sym is)) ∙ sym (held .table-is)),
+      same-programme (sym (ap (take n) rows ∙ take-take n n (P .row) (omega arith)))
+          (h .table-is ∙ ap (ends 0) (sym (h .tree) ∙ ap (parse A) (sym is)) ∙ sym (held .table-is))
+          (h .classes-are ∙ ap classesOf (sym (h .tree) ∙ ap (parse A) (sym is)) ∙ sym (held .classes-are)),
     )
 
 pub after-run : After-run
@@ -237,8 +241,8 @@ plain-pattern : (a : Alphabet) (P : Programme) (q : List ℕ) (p : ℕ) → give
     → plainCheck a (P .row) q p ≡ pattern (a .arities) q
 unfolding position
 plain-pattern a P q p g h =
-    let fits = given-right a P g .sized .fits in
-    let row = both-fine (rowCheck a (P .row)) (fresh Row (a .arities) (P .row) (P .table)) (sym (given-row a P (omega arith)) ∙ g) .0 in
+    let order = given-right a P g in
+    let row = both-fine (rowCheck a (P .row)) (besideCheck a P) (sym (given-row a P (omega (arith, order .row .sized .fits, order .classed .fits))) ∙ g) .0 in
     plain-left a (P .row) q p ∙ rw (row, lt-leb (length (P .row)) p h) (then-fine (pattern (a .arities) q))
 
 pub plain-stays : Plain-stays

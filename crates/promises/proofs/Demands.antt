@@ -1,6 +1,7 @@
 -- All demands of specs/Demands.
 -- Assumes nothing.
 use Rattle.rows.proofs.Promises.{one-tree, tree-of-row}
+use Rattle.rows.proofs.Classes.{class-of-row, same-class, equal-subtrees}
 use Rattle.refusal_numbers.proofs.Table.{table}
 use Rattle.promises.specs.Demands.{Demands}
 use Rattle.promises.proofs.Demand1.{build-one, find-one, variables-one, replace-one, subtree-one, subtree-place-one, newer-one, newer-place-one, plain-one, build-order, find-order, variables-order, replace-order, subtree-order, newer-order, plain-order, find-short, build-refused, find-refused, variables-refused, replace-refused, find-stale, variables-stale, replace-stale, subtree-stale, newer-stale, newer-refused}
@@ -43,6 +44,9 @@ demands =
       replacements-accepted = replacements-accepted;
       one-tree = one-tree;
       tree-of-row = tree-of-row;
+      class-of-row = class-of-row;
+      same-class = same-class;
+      equal-subtrees = equal-subtrees;
       build-accepts = build-accepts;
       build-writes = build-writes;
       find-lists = find-lists;

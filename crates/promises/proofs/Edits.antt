@@ -9,10 +9,11 @@ use borrow.Author.Tests.{ne-eqb}
 use lib.ListN.{length, getD, take, drop}
 use lib.Seq.{length-take-le, take-take}
 use lib.IntN.{ℤ, pos, _-ℤ_}
-use Rattle.rows.specs.Limits.{freedSymbol, freedEntry}
-use Rattle.rows.specs.Programme.{Alphabet, Programme, programme, cut}
+use Rattle.rows.specs.Limits.{freedSymbol, freedEntry, freedClass}
+use Rattle.rows.specs.Programme.{Alphabet, Programme, cut}
 use Rattle.rows.specs.Tree.{Forest, Tree, IsRow, single, size, prefix, ends, subtreeAt}
 use Rattle.rows.specs.Parse.{parse, treeOf, table as tableOf}
+use Rattle.rows.specs.Classes.{classesOf, classes as classesOfRow}
 use Rattle.rows.specs.Row.{allowed}
 use Rattle.rows.specs.Refusals.{replacement}
 use Rattle.rows.specs.declared.Leaves.the-variants.{Symbols}
@@ -21,6 +22,8 @@ use Rattle.rows.proofs.Tree.{length-prefix, length-ends}
 use Rattle.rows.proofs.Parse.{prefix-parse, size-parse}
 use Rattle.rows.proofs.Accept.{ranked-parse, tree-row, whole-of-row}
 use Rattle.rows.proofs.Subtrees.{subtree-row}
+use Rattle.rows.proofs.Alike.{length-classes}
+use Rattle.rows.proofs.Buffers.{same-programme}
 use Rattle.tables.proofs.Given.{right-entry, right-bounds}
 use Rattle.buffers.proofs.Renewed.{renewed-freed, renewed-later}
 use Rattle.patterns.specs.Pattern.{Match}
@@ -30,14 +33,14 @@ use Rattle.edits.proofs.Put.{put-size, put-below, at-ranked, at-fits, size-sing
 use Rattle.edits.proofs.Ends.{end-at, nests}
 use Rattle.edits.proofs.Positions.{at-left, at-behind, put-back, put-swap}
 use Rattle.checks.specs.Checks.{replaceCheck}
-use Rattle.checks.proofs.Replacing.{replace-held, replace-able, able-sizes, replacement-accepted, replace-goes}
+use Rattle.checks.proofs.Replacing.{given-held, replace-held, replace-able, able-sizes, replacement-accepted, replace-goes}
 use Rattle.sparrowhem.specs.Edit.{newTree, Replacement}
 use Rattle.sparrowhem.specs.declared.edit.Replaced.{Replaced}
 use Rattle.sparrowhem.specs.declared.edit.Replaced.the-variants.{Done, Refused}
 use Rattle.promises.specs.Runs.{State, Call, Run, edit, edits, lengthAfter}
 use Rattle.promises.specs.Demands.{movedSpan, Written}
 use Rattle.promises.proofs.Spanning.{spans-stay, map-same}
-use Rattle.promises.proofs.Holding.{Holds, Went, goes, went, stayed, row-now, table-now, same-lengths, holds-changed, held-once}
+use Rattle.promises.proofs.Holding.{Holds, Went, goes, went, stayed, row-now, table-now, classes-now, same-lengths, holds-changed, held-once}
 
 -- ---- one replacement: the tree, and the subtrees beside it
 
@@ -50,19 +53,24 @@ went-written a P n v p m change P′ o =
     let le : length (ends 0 F) ≡ m = length-ends 0 F ∙ sym (w .length-is) in
     let row-is = row-now a P n v p P′ m change w in
     let table-is = table-now a P n v p P′ m change w in
+    let classes-are = classes-now a P n v p P′ m change w in
+    let lc : length (classesOf F) ≡ m = length-classes F ∙ sym (w .length-is) in
     let h = holds-changed a P n v p P′ m change w in
     record {
       length-is = w .length-is;
       row-is = h .row-is;
       table-is = h .table-is;
+      classes-are = h .classes-are;
       change-is = w .change-is;
       freed = λ k h i. (
         ap (λ (l : List ℕ). getD l k 0) row-is ∙ renewed-freed (P .row) n freedSymbol (prefix F) k (omega arith) i,
         ap (λ (l : List ℕ). getD l k 0) table-is ∙ renewed-freed (P .table) n freedEntry (ends 0 F) k (omega arith) i,
+        ap (λ (l : List ℕ). getD l k 0) classes-are ∙ renewed-freed (P .classes) n freedClass (classesOf F) k (omega arith) i,
       );
       later = (
         ap (drop (max n m)) row-is ∙ renewed-later (P .row) n freedSymbol (prefix F) m lp,
         ap (drop (max n m)) table-is ∙ renewed-later (P .table) n freedEntry (ends 0 F) m le,
+        ap (drop (max n m)) classes-are ∙ renewed-later (P .classes) n freedClass (classesOf F) m lc,
       );
     }
 
@@ -200,7 +208,7 @@ pub put-straight-back : (a : Alphabet) (P : Programme) (n : ℕ) (v : List ℕ) 
     → Replacement a P n v p (Done m change) P₁
     → Replacement a P₁ m (prefix (single (subtreeAt (parse (a .arities) (take n (P .row))) p))) p s P₂
     → (s ≡ Done n (pos n -ℤ pos m)) × (cut n P₂ ≡ cut n P)
-unfolding tableOf
+unfolding tableOf classesOfRow
 put-straight-back a P n v p m change P₁ s P₂ o₁ o₂ =
     let A : List ℕ = a .arities in
     let ok = allowed Symbols A in
@@ -225,9 +233,11 @@ put-straight-back a P n v p m change P₁ s P₂ o₁ o₂ =
     replace-goes a P₁ m old p (h .fine) whole (omega (arith, w .length-is, put-below (treeOf A v) G p i)) (omega arith) in
     let g = goes a P₁ m old p P₂ s fine o₂ in
     let h₂ : Holds a P₂ n G = rw (size-back, back) at (holds-changed a P₁ m old p P₂ _ _ (g .1)) in
+    let was = given-held a P n (replace-held a P n v p (w .fine)) in
     let lw = length-take-le n (P .row) (able .within) in (
       g .0 ∙ ap (λ (k : ℕ). Done k (pos k -ℤ pos m)) size-back,
-      ap₂ programme (h₂ .row-is ∙ prefix-parse A (take n (P .row))) (h₂ .table-is ∙ sym (ap (λ (k : ℕ). take k (P .table)) (sym lw) ∙ able .right .right)),
+      same-programme (h₂ .row-is ∙ prefix-parse A (take n (P .row))) (h₂ .table-is ∙ sym (ap (λ (k : ℕ). take k (P .table)) (sym lw) ∙ able .right .right))
+          (h₂ .classes-are ∙ sym (ap (λ (k : ℕ). take k (P .classes)) (sym lw) ∙ was .order .classed .right)),
     )
 
 -- a part within the front of a list is one of the list
@@ -276,5 +286,6 @@ swapped a P n u p v q q′ m₁ m₁₂ m₂ m₂₁ c₁ c₁₂ c₂ c₂₁ P
     ∙ put-swap U (treeOf A v) G p (omega arith) q q′ (omega arith, omega arith, omega arith)
     ∙ ap (λ (f : Forest). put f p U) (sym (h₂ .tree)) in (
       w₁₂ .length-is ∙ ap size same ∙ sym (w₂₁ .length-is),
-      ap₂ programme (h₁₂ .row-is ∙ ap prefix same ∙ sym (h₂₁ .row-is)) (h₁₂ .table-is ∙ ap (ends 0) same ∙ sym (h₂₁ .table-is)),
+      same-programme (h₁₂ .row-is ∙ ap prefix same ∙ sym (h₂₁ .row-is)) (h₁₂ .table-is ∙ ap (ends 0) same ∙ sym (h₂₁ .table-is))
+          (h₁₂ .classes-are ∙ ap classesOf same ∙ sym (h₂₁ .classes-are)),
     )

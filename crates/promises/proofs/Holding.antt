@@ -1,4 +1,4 @@
--- Rows that are held with their tables, and what a replacement makes of them.
+-- Rows that are held with their tables and classes, and what a replacement makes of them.
 -- Assumes nothing.
 use Prim.Native.Nat.{ℕ, _+_, _≤_, _<_}
 use mathlib.Core.Path.{_≡_, refl, sym, ap, _∙_, subst}
@@ -8,15 +8,17 @@ use lib.ListN.{length, take, drop, take-append-drop, length-take}
 use lib.Seq.{length-take-le}
 use lib.IntN.{ℤ, pos, _-ℤ_}
 use borrow.Author.Tests.{le-ltb}
-use Rattle.rows.specs.Limits.{rowMost, freedSymbol, freedEntry}
+use Rattle.rows.specs.Limits.{rowMost, freedSymbol, freedEntry, freedClass}
 use Rattle.rows.specs.Programme.{Alphabet, Programme, room, front}
 use Rattle.rows.specs.Tree.{Forest, single, size, count, prefix, ends, Ranked}
 use Rattle.rows.specs.Parse.{parse, treeOf, table}
+use Rattle.rows.specs.Classes.{classesOf, classes}
 use Rattle.rows.specs.Row.{verdict, allowed, sized}
 use Rattle.rows.specs.Buffers.{written, after}
-use Rattle.rows.specs.Refusals.{_then_, alphabet, sizes, symbols, differs, fresh, kept, given}
+use Rattle.rows.specs.Refusals.{_then_, alphabet, sizes, symbols, differs, fresh, classed, kept, given}
 use Rattle.rows.specs.declared.Leaves.the-variants.{Symbols}
 use Rattle.rows.specs.declared.Verdict.the-variants.{Whole}
+use Rattle.rows.specs.declared.Kept.the-variants.{Stale, Misclassed}
 use Rattle.rows.specs.declared.Refusal.{Refusal}
 use Rattle.rows.specs.declared.Refusal.the-variants.{Row}
 use Rattle.rows.specs.declared.Check.{Check}
@@ -28,12 +30,14 @@ use Rattle.rows.proofs.Buffers.{written-front, length-written}
 use Rattle.rows.proofs.Scan.{verdict-whole}
 use Rattle.rows.proofs.Entry.{length-table, same-end}
 use Rattle.rows.proofs.Passing.{both-fine, sizes-fits, below}
-use Rattle.tables.proofs.Differ.{differs-same}
+use Rattle.rows.proofs.Alike.{length-classes}
+use Rattle.rows.proofs.Classes.{class-of-row}
+use Rattle.rows.proofs.Differ.{differs-same}
 use Rattle.buffers.proofs.Renewed.{take-renewed, length-renewed}
 use Rattle.edits.proofs.Put.{put-count, put-ranked, put-below}
 use Rattle.checks.specs.Checks.{buildCheck, replaceCheck}
 use Rattle.checks.proofs.Building.{build-fillable}
-use Rattle.checks.proofs.Replacing.{given-held, replace-held, replace-able}
+use Rattle.checks.proofs.Replacing.{given-held, replace-held, replace-able, replace-classes}
 use Rattle.sparrowhem.specs.Build.{Built}
 use Rattle.sparrowhem.specs.Edit.{newTree, holding, answered, Replacement}
 use Rattle.sparrowhem.specs.declared.edit.Replaced.{Replaced}
@@ -42,23 +46,29 @@ use Rattle.promises.proofs.Calls.{build-fine}
 
 -- ---- held rows
 
--- the first n places of the row's buffer are the row of the tree f, and those of the table its table; and no call with that row
--- length refuses them
+-- the first n places of the row's buffer are the row of the tree f, those of the table its table and those of the classes its classes;
+-- and no call with that row length refuses them
 pub record Holds (a : Alphabet) (P : Programme) (n : ℕ) (f : Forest) : Type 0 where
   pub tree : parse (a .arities) (take n (P .row)) ≡ f
   pub row-is : take n (P .row) ≡ prefix f
   pub table-is : take n (P .table) ≡ ends 0 f
+  pub classes-are : take n (P .classes) ≡ classesOf f
   pub fine : given a P n ≡ Fine
 
 alphabet-fine : (a : Alphabet) (P : Programme) (n : ℕ) → given a P n ≡ Fine → alphabet a ≡ Fine
 unfolding given
 alphabet-fine a P n e = both-fine (alphabet a) (kept Row a P n) e .0
 
--- a ranked forest of one tree, at the front of the row's buffer, with its table
+-- a list whose first n places are another does not differ from it
+pub begins : (wrong : ℕ → Refusal) (n : ℕ) (l t : List ℕ) → take n t ≡ l → differs wrong 0 l t ≡ Fine
+begins wrong n l t e =
+    ap (differs wrong 0 l) (sym (take-append-drop n t) ∙ ap (λ (x : List ℕ). x ++ drop n t) e) ∙ differs-same wrong 0 l (drop n t)
+
+-- a ranked forest of one tree, at the front of the row's buffer, with its table and its classes
 pub held-forest : (a : Alphabet) (P : Programme) (n : ℕ) (f : Forest) → alphabet a ≡ Fine → n ≤ rowMost → n ≤ room P → 0 < n
-    → Ranked (a .arities) (allowed Symbols (a .arities)) f → count f ≡ 1 → take n (P .row) ≡ prefix f → take n (P .table) ≡ ends 0 f → Holds a P n f
-unfolding given kept sizes sized symbols fresh table count
-held-forest a P n f alpha most fits some ranked one reads tabled =
+    → Ranked (a .arities) (allowed Symbols (a .arities)) f → count f ≡ 1 → take n (P .row) ≡ prefix f → take n (P .table) ≡ ends 0 f → take n (P .classes) ≡ classesOf f → Holds a P n f
+unfolding given kept sizes sized symbols fresh classed table classes count
+held-forest a P n f alpha most fits some ranked one reads tabled named =
     let A : List ℕ = a .arities in
     let ok = allowed Symbols A in
     let w : List ℕ = take n (P .row) in
@@ -69,20 +79,21 @@ held-forest a P n f alpha most fits some ranked one reads tabled =
     ∙ ap (λ (k : ℕ). verdict A ok k 0 (prefix f ++ [])) (omega arith)
     ∙ verdict-forest A ok f 0 0 [] ranked
     ∙ verdict-whole A ok (0 + size f) in
-    let right : differs Row 0 (ends 0 (parse A w)) t ≡ Fine =
-    ap (differs Row 0 (ends 0 (parse A w))) (sym (take-append-drop n t) ∙ ap (λ (l : List ℕ). l ++ drop n t) (tabled ∙ ap (ends 0) (sym tree)))
-    ∙ differs-same Row 0 (ends 0 (parse A w)) (drop n t) in
+    let right : differs (λ k. Row (Stale k)) 0 (ends 0 (parse A w)) t ≡ Fine = begins (λ k. Row (Stale k)) n (ends 0 (parse A w)) t (tabled ∙ ap (ends 0) (sym tree)) in
+    let classed-right : differs (λ k. Row (Misclassed k)) 0 (classesOf (parse A w)) (P .classes) ≡ Fine =
+    begins (λ k. Row (Misclassed k)) n (classesOf (parse A w)) (P .classes) (named ∙ ap classesOf (sym tree)) in
     record {
       tree = tree;
       row-is = reads;
       table-is = tabled;
-      fine = simp (alpha, le-ltb n 1 (omega arith), le-ltb rowMost n most, le-ltb (room P) n fits, whole, right);
+      classes-are = named;
+      fine = simp (alpha, le-ltb n 1 (omega arith), le-ltb rowMost n most, le-ltb (room P) n fits, whole, right, classed-right);
     }
 
--- an accepted row with its built table is held
+-- an accepted row with its built table and classes is held
 pub built-holds : (a : Alphabet) (T P : Programme) (n : ℕ) → Built a T Fine (front n P) → length (T .row) ≡ n
     → Holds a P n (parse (a .arities) (T .row))
-unfolding buildCheck table
+unfolding buildCheck table classes
 built-holds a T P n b long =
     let A : List ℕ = a .arities in
     let ok = allowed Symbols A in
@@ -94,8 +105,11 @@ built-holds a T P n b long =
     let now = build-fine a T (front n P) b in
     let row-now : take n (P .row) ≡ w = ap (λ (x : Programme). x .row) now in
     let table-now : P .table ≡ written (T .table) 0 (table A w) = ap (λ (x : Programme). x .table) now in
+    let classes-now : P .classes ≡ written (T .classes) 0 (classes A w) = ap (λ (x : Programme). x .classes) now in
     let lt = length-table A w in
+    let lc = class-of-row A w .0 in
     let same : length (P .table) ≡ length (T .table) = ap length table-now ∙ length-written (T .table) 0 (table A w) (omega (arith, fits .room)) in
+    let same-too : length (P .classes) ≡ length (T .classes) = ap length classes-now ∙ length-written (T .classes) 0 (classes A w) (omega (arith, fits .room)) in
     let within : n ≤ length (P .row) = omega (arith, ap length row-now, long, length-take n (P .row)) in
     held-forest a P n (parse A w)
     (x .0)
@@ -106,6 +120,7 @@ built-holds a T P n b long =
     (count-parse A ok w 1 0 (can .accepted))
     (row-now ∙ sym (prefix-parse A w))
     (ap (take n) table-now ∙ ap (λ (k : ℕ). take k (written (T .table) 0 (table A w))) (sym (lt ∙ long)) ∙ written-front (T .table) (table A w))
+    (ap (take n) classes-now ∙ ap (λ (k : ℕ). take k (written (T .classes) 0 (classes A w))) (sym (lc ∙ long)) ∙ written-front (T .classes) (classes A w))
 
 -- so a held row has one length only
 pub held-once : (a : Alphabet) (P : Programme) (n k : ℕ) → given a P n ≡ Fine → given a P k ≡ Fine → n ≡ k
@@ -114,8 +129,8 @@ held-once a P n k e d =
     let ok = allowed Symbols A in
     let f = given-held a P n e in
     let g = given-held a P k d in
-    let x = row-of-whole A ok (take n (P .row)) (f .right .accepted) in
-    let y = row-of-whole A ok (take k (P .row)) (g .right .accepted) in
+    let x = row-of-whole A ok (take n (P .row)) (f .order .row .accepted) in
+    let y = row-of-whole A ok (take k (P .row)) (g .order .row .accepted) in
     below n k
     (λ h. same-end A ok ok (P .row) n k (omega arith) (omega (arith, g .fits)) x y)
     (λ h. sym (same-end A ok ok (P .row) k n h (omega (arith, f .fits)) y x))
@@ -176,22 +191,27 @@ module _ (a : Alphabet) (P : Programme) (n : ℕ) (v : List ℕ) (p : ℕ) (P′
     pub table-now : P′ .table ≡ holding P n F .table
     table-now = ap (λ (x : Programme). x .table) (w .lists)
 
+    pub classes-now : P′ .classes ≡ holding P n F .classes
+    classes-now = ap (λ (x : Programme). x .classes) (w .lists)
+
     -- the lists keep their length, and the old row fits them
-    pub same-lengths : (length (P′ .row) ≡ length (P .row)) × (length (P′ .table) ≡ length (P .table)) × (n ≤ length (P .row)) × (n ≤ length (P .table))
+    pub same-lengths : (length (P′ .row) ≡ length (P .row)) × (length (P′ .table) ≡ length (P .table)) × (length (P′ .classes) ≡ length (P .classes)) × (n ≤ room P)
     same-lengths =
         let r = replace-able a P n v p (w .fine) in
+        let c = replace-classes a P n v p (w .fine) in
         let lt : n ≤ length (P .table) = omega (arith, r .right .sized .fits, length-take-le n (P .row) (r .within)) in (
           ap length row-now ∙ length-renewed (P .row) n freedSymbol (prefix F) (r .within) (omega (arith, length-prefix F, r .row-room)),
           ap length table-now ∙ length-renewed (P .table) n freedEntry (ends 0 F) lt (omega (arith, length-ends 0 F, r .table-room)),
-          r .within,
-          lt,
+          ap length classes-now ∙ length-renewed (P .classes) n freedClass (classesOf F) (c .old) (omega (arith, length-classes F, c .new)),
+          omega (arith, r .within, lt, c .old),
         )
 
-    -- row and table hold the changed tree
+    -- the lists hold the changed tree
     pub holds-changed : Holds a P′ m F
     holds-changed =
         let ok = allowed Symbols A in
         let r = replace-able a P n v p (w .fine) in
+        let c = replace-classes a P n v p (w .fine) in
         let old : List ℕ = take n (P .row) in
         let G = parse A old in
         let u = treeOf A v in
@@ -203,9 +223,10 @@ module _ (a : Alphabet) (P : Programme) (n : ℕ) (v : List ℕ) (p : ℕ) (P′
         held-forest a P′ m F
         (alphabet-fine a P n (replace-held a P n v p (w .fine)))
         (omega (arith, w .length-is, r .most))
-        (omega (arith, w .length-is, r .row-room, r .table-room, long .0, long .1))
+        (omega (arith, w .length-is, r .row-room, r .table-room, c .new, long .0, long .1, long .2))
         (omega (arith, w .length-is, put-below u G p i))
         (put-ranked A ok u ranked-u G p (ranked-parse A ok old 1 0 (r .right .accepted)))
         (put-count u G p ∙ count-parse A ok old 1 0 (r .right .accepted))
         (ap (take m) row-now ∙ take-renewed (P .row) n freedSymbol (prefix F) m (lp ∙ sym (w .length-is)))
         (ap (take m) table-now ∙ take-renewed (P .table) n freedEntry (ends 0 F) m (le ∙ sym (w .length-is)))
+        (ap (take m) classes-now ∙ take-renewed (P .classes) n freedClass (classesOf F) m (length-classes F ∙ sym (w .length-is)))

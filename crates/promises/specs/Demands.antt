@@ -11,18 +11,19 @@ use mathlib.Core.Logic.{_↔_, _⊎_}
 use lib.Dec.{ltb, eqb}
 use lib.ListN.{length, getD, take, drop}
 use lib.IntN.{ℤ, pos, _-ℤ_}
-use Rattle.rows.specs.Limits.{freedSymbol, freedEntry, spanPlaces, variables}
+use Rattle.rows.specs.Limits.{freedSymbol, freedEntry, freedClass, spanPlaces, variables}
 use Rattle.rows.specs.Programme.{Alphabet, Programme, room, front, cut}
 use Rattle.rows.specs.Tree.{Forest, IsRow, single, size, prefix, ends}
+use Rattle.rows.specs.Classes.{FirstEqual, classesOf}
 use Rattle.rows.specs.Row.{pick, symbol, allowed}
 use Rattle.rows.specs.Buffers.{One}
-use Rattle.rows.specs.Promises.{One-tree, Tree-of-row, Entry}
-use Rattle.rows.specs.Refusals.{_then_, alphabet, sizes, symbols, given, pattern, replacement}
+use Rattle.rows.specs.Promises.{One-tree, Tree-of-row, Entry, Class-of-row, Same-class, Equal-subtrees}
+use Rattle.rows.specs.Refusals.{_then_, alphabet, sizes, symbols, fresh, given, pattern, replacement}
 use Rattle.rows.specs.declared.Leaves.the-variants.{Blanks}
 use Rattle.rows.specs.declared.Refusal.the-variants.{Row}
 use Rattle.rows.specs.declared.Check.{Check}
 use Rattle.rows.specs.declared.Check.the-variants.{Fine}
-use Rattle.refusal_numbers.specs.Table.{Refuses, FirstStale, Table}
+use Rattle.refusal_numbers.specs.Table.{Refuses, FirstStale, FirstMisclassed, Table}
 use Rattle.patterns.specs.Answers.{MatchesAt, Listed, facing, Has, Spanned}
 use Rattle.checks.specs.Checks.{buildCheck, searchCheck, findCheck, variablesCheck, replaceCheck, subtreeCheck, newerCheck, plainCheck}
 use Rattle.sparrowhem.specs.Said.{Said.refused, Said.gives, checkSaid, foundSaid, boundSaid, replacedSaid, placedSaid, newestSaid, fitsSaid}
@@ -127,32 +128,42 @@ abbrev pub Replace-refused : Type 0
 Replace-refused = (a : Alphabet) (P : Programme) (n : ℕ) (v : List ℕ) (p : ℕ) (r : Replaced) (P′ : Programme) → Replacement a P n v p r P′
     → (k x : ℕ) → replacedSaid r ≡ refused k x → P′ ≡ P
 
--- "A call that reads a table refuses it as stale if an entry differs from the row's": nothing from 1 to 9 is wrong with a row of n
--- symbols, and p is the first position where its table differs.
+-- "A call that reads a table refuses it as stale if an entry differs from the row's", and likewise with the classes. Nothing from 1 to 9
+-- is wrong with a row of n symbols, and p is the first position where its table differs.
 pub record StaleAt (a : Alphabet) (P : Programme) (n p : ℕ) : Type 0 where
   pub earlier : alphabet a then sizes Row n (room P) then symbols Row (a .arities) (front n P .row) ≡ Fine
   pub first : FirstStale (a .arities) (front n P .row) (P .table) p
 
+-- nothing from 1 to 10 is wrong, and p is the first position where its classes differ
+pub record MisclassedAt (a : Alphabet) (P : Programme) (n p : ℕ) : Type 0 where
+  pub earlier :
+      alphabet a then sizes Row n (room P) then symbols Row (a .arities) (front n P .row) then fresh Row (a .arities) (front n P .row) (P .table) ≡ Fine
+  pub first : FirstMisclassed (a .arities) (front n P .row) (P .classes) p
+
+-- the one, which is 10, or the other, which is 62
+abbrev pub WrongBeside : Alphabet → Programme → ℕ → ℕ → ℕ → Type 0
+WrongBeside a P n k p = ((k ≡ 10) × StaleAt a P n p) ⊎ ((k ≡ 62) × MisclassedAt a P n p)
+
 abbrev pub Find-stale : Type 0
-Find-stale = (a : Alphabet) (P : Programme) (q y : List ℕ) (r : Found) (y′ : List ℕ) (p : ℕ) → Finds a P q y r y′
-    → StaleAt a P (length (P .row)) p → foundSaid r ≡ refused 10 p
+Find-stale = (a : Alphabet) (P : Programme) (q y : List ℕ) (r : Found) (y′ : List ℕ) (k p : ℕ) → Finds a P q y r y′
+    → WrongBeside a P (length (P .row)) k p → foundSaid r ≡ refused k p
 
 abbrev pub Variables-stale : Type 0
-Variables-stale = (a : Alphabet) (P : Programme) (q : List ℕ) (k : ℕ) (y : List ℕ) (r : Bound) (y′ : List ℕ) (p : ℕ) → Binds a P q k y r y′
-    → StaleAt a P (length (P .row)) p → boundSaid r ≡ refused 10 p
+Variables-stale = (a : Alphabet) (P : Programme) (q : List ℕ) (x : ℕ) (y : List ℕ) (r : Bound) (y′ : List ℕ) (k p : ℕ) → Binds a P q x y r y′
+    → WrongBeside a P (length (P .row)) k p → boundSaid r ≡ refused k p
 
 abbrev pub Replace-stale : Type 0
-Replace-stale = (a : Alphabet) (P : Programme) (n : ℕ) (v : List ℕ) (k : ℕ) (r : Replaced) (P′ : Programme) (p : ℕ) → Replacement a P n v k r P′
-    → StaleAt a P n p → replacedSaid r ≡ refused 10 p
+Replace-stale = (a : Alphabet) (P : Programme) (n : ℕ) (v : List ℕ) (x : ℕ) (r : Replaced) (P′ : Programme) (k p : ℕ) → Replacement a P n v x r P′
+    → WrongBeside a P n k p → replacedSaid r ≡ refused k p
 
 abbrev pub Subtree-stale : Type 0
-Subtree-stale = (a : Alphabet) (P : Programme) (k p : ℕ) → StaleAt a P (length (P .row)) p → placedSaid (subtreeAnswer a P k) ≡ refused 10 p
+Subtree-stale = (a : Alphabet) (P : Programme) (x k p : ℕ) → WrongBeside a P (length (P .row)) k p → placedSaid (subtreeAnswer a P x) ≡ refused k p
 
--- the corrected row's table, or where that is fine, that of the row on record
+-- what is kept beside the corrected row, or where that is fine, beside the row on record: 50 and 102
 abbrev pub Newer-stale : Type 0
-Newer-stale = (a : Alphabet) (P O : Programme) (q : List ℕ) (r : Newest) (p : ℕ) → NewestSays a P O q r
-    → (StaleAt a P (length (P .row)) p → newestSaid r ≡ refused 10 p)
-    × (given a P (length (P .row)) ≡ Fine → StaleAt a O (length (O .row)) p → newestSaid r ≡ refused 50 p)
+Newer-stale = (a : Alphabet) (P O : Programme) (q : List ℕ) (r : Newest) (k p : ℕ) → NewestSays a P O q r
+    → (WrongBeside a P (length (P .row)) k p → newestSaid r ≡ refused k p)
+    × (given a P (length (P .row)) ≡ Fine → WrongBeside a O (length (O .row)) k p → newestSaid r ≡ refused (40 + k) p)
 
 -- "A refused corrected row never falls through to the older one"
 abbrev pub Newer-refused : Type 0
@@ -177,16 +188,20 @@ Build-accepts = (a : Alphabet) (P : Programme) (r : Check) (P′ : Programme) �
     → alphabet a ≡ Fine → sizes Row (length (P .row)) (room P) ≡ Fine → (checkSaid r ≡ gives []) ↔ IsRow (a .arities) (symbol (a .arities)) (P .row)
 
 -- What build leaves, told by the row's tree: the table begins with the ends of its subtrees, and entry p is the only end that makes
--- the symbols from p on a row, that of the subtree at p; later places and the row stay.
-pub record Leaves-table (a : Alphabet) (P P′ : Programme) (x : IsRow (a .arities) (symbol (a .arities)) (P .row)) : Type 0 where
+-- the symbols from p on a row, that of the subtree at p; the classes begin with those of its subtrees, and class p is the first position
+-- whose subtree is equal to the one at p; later places and the row stay.
+pub record Left-beside (a : Alphabet) (P P′ : Programme) (x : IsRow (a .arities) (symbol (a .arities)) (P .row)) : Type 0 where
   pub table-is : take (length (P .row)) (P′ .table) ≡ ends 0 (single (x .tree))
   pub entry-is : (p : ℕ) → p < length (P .row) → Entry (a .arities) (symbol (a .arities)) (P .row) (x .tree) p (getD (P′ .table) p 0)
+  pub classes-are : take (length (P .row)) (P′ .classes) ≡ classesOf (single (x .tree))
+  pub class-is : (p : ℕ) → p < length (P .row) → FirstEqual (single (x .tree)) p (getD (P′ .classes) p 0)
   pub later : drop (length (P .row)) (P′ .table) ≡ drop (length (P .row)) (P .table)
+  pub classes-later : drop (length (P .row)) (P′ .classes) ≡ drop (length (P .row)) (P .classes)
   pub row-stays : P′ .row ≡ P .row
 
 abbrev pub Build-writes : Type 0
 Build-writes = (a : Alphabet) (P : Programme) (r : Check) (P′ : Programme) → Built a P r P′ → checkSaid r ≡ gives []
-    → (x : IsRow (a .arities) (symbol (a .arities)) (P .row)) → Leaves-table a P P′ x
+    → (x : IsRow (a .arities) (symbol (a .arities)) (P .row)) → Left-beside a P P′ x
 
 -- "An answered search lists a position exactly if some choice of trees for the blanks, the same tree wherever the same variable
 -- stands, turns the pattern into the subtree there; the list rises, each position once" (`MatchesAt` and `Listed`; that they speak of
@@ -219,7 +234,7 @@ Plain-exactly = (a : Alphabet) (w q : List ℕ) (p : ℕ) (r : Fits) → PlainSa
     → ((fitsSaid r ≡ gives (pos 1 ∷ [])) ↔ MatchesAt a w q p) × ((fitsSaid r ≡ gives (pos 0 ∷ [])) ↔ (MatchesAt a w q p → ⊥))
 
 -- "Plain matcher and find agree": the same alphabet, row and pattern for both, and for find lists that build leaves of such as are
--- long enough: the built table, or for a refused row any that is long enough.
+-- long enough: the built ones, or for a refused row any that are long enough.
 pub record Both (a : Alphabet) (P : Programme) (q y : List ℕ) (f : Found) (y′ : List ℕ) (p : ℕ) (r : Fits) : Type 0 where
   pub old : Programme
   pub build : Check
@@ -234,7 +249,7 @@ Plain-finds = (a : Alphabet) (P : Programme) (q y : List ℕ) (f : Found) (y′ 
     → ((n : ℕ) → foundSaid f ≡ refused 19 n → ⊥)
     → (fitsSaid r ≡ gives (pos 1 ∷ [])) ↔ ((n : ℕ) × (foundSaid f ≡ gives (pos n ∷ [])) × List·Memᴰ p (take n y′))
 
--- a refusal up to 15 is the same from both, number and place (6 and 10 come from neither, since the table is long enough and the row's)
+-- a refusal up to 15 is the same from both, number and place (6 and 10 come from neither, since the lists are long enough and the row's)
 abbrev pub Plain-refuses : Type 0
 Plain-refuses = (a : Alphabet) (P : Programme) (q y : List ℕ) (f : Found) (y′ : List ℕ) (p : ℕ) (r : Fits) → Both a P q y f y′ p r
     → (k x : ℕ) → k ≤ 15 → (fitsSaid r ≡ refused k x) ↔ (foundSaid f ≡ refused k x)
@@ -262,21 +277,25 @@ Newer-empty = (a : Alphabet) (P O : Programme) (q x : List ℕ) (r : Newest) →
 
 -- ==== DEMAND 3
 
--- A replacement that answers the length m and a change leaves the row and the table of the tree with the subtree at p replaced, whose
--- size m is; the change is that length less the old one; freed places are marked, later places stay.
+-- A replacement that answers the length m and a change leaves the row, the table and the classes of the tree with the subtree at p
+-- replaced, whose size m is; the change is that length less the old one; freed places are marked, later places stay.
 pub record Written (a : Alphabet) (P : Programme) (n : ℕ) (v : List ℕ) (p m : ℕ) (change : ℤ) (P′ : Programme) : Type 0 where
   pub length-is : m ≡ size (newTree a P n v p)
   pub row-is : take m (P′ .row) ≡ prefix (newTree a P n v p)
   pub table-is : take m (P′ .table) ≡ ends 0 (newTree a P n v p)
+  pub classes-are : take m (P′ .classes) ≡ classesOf (newTree a P n v p)
   pub change-is : change ≡ pos m -ℤ pos n
-  pub freed : (k : ℕ) → m ≤ k → k < n → (getD (P′ .row) k 0 ≡ freedSymbol) × (getD (P′ .table) k 0 ≡ freedEntry)
-  pub later : (drop (max n m) (P′ .row) ≡ drop (max n m) (P .row)) × (drop (max n m) (P′ .table) ≡ drop (max n m) (P .table))
+  pub freed : (k : ℕ) → m ≤ k → k < n → (getD (P′ .row) k 0 ≡ freedSymbol) × (getD (P′ .table) k 0 ≡ freedEntry) × (getD (P′ .classes) k 0 ≡ freedClass)
+  pub later :
+      (drop (max n m) (P′ .row) ≡ drop (max n m) (P .row))
+      × (drop (max n m) (P′ .table) ≡ drop (max n m) (P .table))
+      × (drop (max n m) (P′ .classes) ≡ drop (max n m) (P .classes))
 
 abbrev pub Replace-writes : Type 0
 Replace-writes = (a : Alphabet) (P : Programme) (n : ℕ) (v : List ℕ) (p m : ℕ) (change : ℤ) (r : Replaced) (P′ : Programme) → Replacement a P n v p r P′
     → replacedSaid r ≡ gives (pos m ∷ change ∷ []) → Written a P n v p m change P′
 
--- "The row is what the same replacements in the tree give, the table what a fresh build gives": a caller holds the row of the tree f,
+-- "The row is what the same replacements in the tree give, table and classes what a fresh build gives": a caller holds the row of the tree f,
 -- of its size, and no call refuses it; and any build of that row, into lists with room for it, is accepted and gives the same.
 pub record Follows (a : Alphabet) (s : State) (f : Forest) : Type 0 where
   pub length-is : s .length ≡ size f
@@ -285,7 +304,7 @@ pub record Follows (a : Alphabet) (s : State) (f : Forest) : Type 0 where
   pub built-is : (T : Programme) (r : Check) (T′ : Programme) → T .row ≡ take (s .length) (s .lists .row) → s .length ≤ room T → Built a T r T′
       → (checkSaid r ≡ gives []) × (cut (s .length) (s .lists) ≡ cut (s .length) T′)
 
--- "From an accepted row with its built table, after any replacements under one alphabet, some refused": the tree is that of the
+-- "From an accepted row with its built table and classes, after any replacements under one alphabet, some refused": the tree is that of the
 -- first row with the replacements that were not refused made in it, one after the other.
 abbrev pub After-run : Type 0
 After-run = (a : Alphabet) (T : Programme) (r : Check) (P : Programme) (n : ℕ) → Built a T r (front n P) → checkSaid r ≡ gives [] → length (T .row) ≡ n
@@ -331,7 +350,7 @@ abbrev pub Plain-stays : Type 0
 Plain-stays = (a : Alphabet) (P : Programme) (n p m : ℕ) (P′ : Programme) (q q′ : ℕ) → Beside a P n p m P′ q q′
     → (Q : List ℕ) (r s : Fits) → PlainSays a (front n P .row) Q q r → PlainSays a (front m P′ .row) Q q′ s → fitsSaid s ≡ fitsSaid r
 
--- "Putting the old subtree straight back is never refused and restores row and table": into the same lists, with the length last
+-- "Putting the old subtree straight back is never refused and restores row, table and classes": into the same lists, with the length last
 -- answered and under the same alphabet, the symbols from p up to the old end.
 abbrev pub Putting-back : Type 0
 Putting-back = (a : Alphabet) (P : Programme) (n : ℕ) (v : List ℕ) (p m : ℕ) (change : ℤ) (r : Replaced) (P₁ : Programme) (s : Replaced) (P₂ : Programme)
@@ -387,6 +406,9 @@ pub record Demands : Type 0 where
   pub replacements-accepted : Replacements-accepted
   pub one-tree : One-tree
   pub tree-of-row : Tree-of-row
+  pub class-of-row : Class-of-row
+  pub same-class : Same-class
+  pub equal-subtrees : Equal-subtrees
   pub build-accepts : Build-accepts
   pub build-writes : Build-writes
   pub find-lists : Find-lists

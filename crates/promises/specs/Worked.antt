@@ -29,7 +29,7 @@ VariablesSay a P q p y said y′ = (r : Bound) × Binds a P q p y r y′ × (bou
 abbrev pub ReplaceSays : Alphabet → Programme → ℕ → List ℕ → ℕ → Said → Programme → Type 0
 ReplaceSays a P n v p said P′ = (r : Replaced) × Replacement a P n v p r P′ × (replacedSaid r ≡ said)
 
--- alphabet A and row T, T's table, and the same with entry 4 set to 5
+-- alphabet A and row T, T's table, and the same with entry 4 set to 5; T's classes, and the same with class 6 set to 6
 abbrev pub A : Alphabet
 A = alphabetOf (0 ∷ 0 ∷ 1 ∷ 2 ∷ 3 ∷ [])
 
@@ -42,11 +42,20 @@ ends-of-T = 9 ∷ 4 ∷ 3 ∷ 4 ∷ 6 ∷ 6 ∷ 9 ∷ 8 ∷ 9 ∷ []
 abbrev pub stale-at-4 : List ℕ
 stale-at-4 = 9 ∷ 4 ∷ 3 ∷ 4 ∷ 5 ∷ 6 ∷ 9 ∷ 8 ∷ 9 ∷ []
 
+abbrev pub classes-of-T : List ℕ
+classes-of-T = 0 ∷ 1 ∷ 2 ∷ 2 ∷ 4 ∷ 5 ∷ 1 ∷ 2 ∷ 2 ∷ []
+
+abbrev pub misclassed-at-6 : List ℕ
+misclassed-at-6 = 0 ∷ 1 ∷ 2 ∷ 2 ∷ 4 ∷ 5 ∷ 6 ∷ 2 ∷ 2 ∷ []
+
 abbrev pub T-built : Programme
-T-built = programme T ends-of-T
+T-built = programme T ends-of-T classes-of-T
 
 abbrev pub T-stale : Programme
-T-stale = programme T stale-at-4
+T-stale = programme T stale-at-4 classes-of-T
+
+abbrev pub T-misclassed : Programme
+T-misclassed = programme T ends-of-T misclassed-at-6
 
 -- a place that was not written, of which no call speaks; so many of them
 abbrev pub unset : ℕ
@@ -65,22 +74,25 @@ X0 = 65280
 abbrev pub spans-of-X0 : ℕ → ℕ → List ℕ
 spans-of-X0 b e = b ∷ e ∷ replicate 30 0
 
--- T with 3 0 1 put at 4, and its table
+-- T with 3 0 1 put at 4, its table and its classes
 abbrev pub T-with-3-0-1 : Programme
 T-with-3-0-1 =
     programme (4 ∷ 3 ∷ 0 ∷ 0 ∷ 3 ∷ 0 ∷ 1 ∷ 3 ∷ 0 ∷ 0 ∷ []) (10 ∷ 4 ∷ 3 ∷ 4 ∷ 7 ∷ 6 ∷ 7 ∷ 10 ∷ 9 ∷ 10 ∷ [])
+    (0 ∷ 1 ∷ 2 ∷ 2 ∷ 4 ∷ 2 ∷ 6 ∷ 1 ∷ 2 ∷ 2 ∷ [])
 
--- T with 1 put at 1, and its table: places 7 and 8 are freed
+-- T with 1 put at 1, its table and its classes, of which those of all that stood further right have changed: places 7 and 8 are freed
 abbrev pub T-with-1 : Programme
-T-with-1 = programme (4 ∷ 1 ∷ 2 ∷ 1 ∷ 3 ∷ 0 ∷ 0 ∷ 65535 ∷ 65535 ∷ []) (7 ∷ 2 ∷ 4 ∷ 4 ∷ 7 ∷ 6 ∷ 7 ∷ 0 ∷ 0 ∷ [])
+T-with-1 =
+    programme (4 ∷ 1 ∷ 2 ∷ 1 ∷ 3 ∷ 0 ∷ 0 ∷ 65535 ∷ 65535 ∷ []) (7 ∷ 2 ∷ 4 ∷ 4 ∷ 7 ∷ 6 ∷ 7 ∷ 0 ∷ 0 ∷ [])
+    (0 ∷ 1 ∷ 2 ∷ 1 ∷ 4 ∷ 5 ∷ 5 ∷ 0 ∷ 0 ∷ [])
 
 -- a build of the row w that refuses so, and writes nothing
 abbrev pub Refused-row : List ℕ → ℕ → ℕ → Type 0
-Refused-row w k x = BuildSays A (programme w (places 9)) (refused k x) (programme w (places 9))
+Refused-row w k x = BuildSays A (programme w (places 9) (places 9)) (refused k x) (programme w (places 9) (places 9))
 
 pub record Worked : Type 0 where
-  -- 1: the table of T
-  pub the-table : BuildSays A (programme T (places 9)) (gives []) T-built
+  -- 1: the table and the classes of T
+  pub the-table : BuildSays A (programme T (places 9) (places 9)) (gives []) T-built
   -- 2: 3 X0 X0
   pub equal-parts : FindSays A T-built (3 ∷ X0 ∷ X0 ∷ []) (places 9) (gives (pos 2 ∷ [])) (1 ∷ 6 ∷ places 7)
   -- 3: 4 X0 S X0, and its variable
@@ -93,7 +105,8 @@ pub record Worked : Type 0 where
   -- 6: X0 at position 0
   pub the-whole : VariablesSay A T-built (X0 ∷ []) 0 (places 32) (gives (pos 1 ∷ [])) (spans-of-X0 0 9)
   -- 7: 3 0 1 put at 4, in lists of ten places, and 3 X0 X0 in the new row
-  pub grown : ReplaceSays A (programme (T ++ places 1) (ends-of-T ++ places 1)) 9 (3 ∷ 0 ∷ 1 ∷ []) 4 (gives (pos 10 ∷ pos 1 ∷ [])) T-with-3-0-1
+  pub grown :
+      ReplaceSays A (programme (T ++ places 1) (ends-of-T ++ places 1) (classes-of-T ++ places 1)) 9 (3 ∷ 0 ∷ 1 ∷ []) 4 (gives (pos 10 ∷ pos 1 ∷ [])) T-with-3-0-1
   pub equal-parts-then : FindSays A T-with-3-0-1 (3 ∷ X0 ∷ X0 ∷ []) (places 9) (gives (pos 2 ∷ [])) (1 ∷ 7 ∷ places 7)
   -- 8: 1 put at 1; the change is -2
   pub shrunk : ReplaceSays A T-built 9 (1 ∷ []) 1 (gives (pos 7 ∷ negsuc 1 ∷ [])) T-with-1
@@ -106,3 +119,7 @@ pub record Worked : Type 0 where
   pub stale-find : FindSays A T-stale (3 ∷ X0 ∷ X0 ∷ []) (places 9) (refused 10 4) (places 9)
   pub stale-variables : VariablesSay A T-stale (3 ∷ X0 ∷ X0 ∷ []) 1 (places 32) (refused 10 4) (places 32)
   pub stale-replace : ReplaceSays A T-stale 9 (1 ∷ []) 1 (refused 10 4) T-stale
+  -- 12: with class 6 set to 6, which names no earlier subtree though an equal one stands at 1, no call goes on either
+  pub misclassed-find : FindSays A T-misclassed (3 ∷ X0 ∷ X0 ∷ []) (places 9) (refused 62 6) (places 9)
+  pub misclassed-variables : VariablesSay A T-misclassed (3 ∷ X0 ∷ X0 ∷ []) 1 (places 32) (refused 62 6) (places 32)
+  pub misclassed-replace : ReplaceSays A T-misclassed 9 (1 ∷ []) 1 (refused 62 6) T-misclassed

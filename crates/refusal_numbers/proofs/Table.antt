@@ -12,8 +12,9 @@ use lib.Dec.{ltb, leb, eqb}
 use lib.ListN.{length, getD}
 use Rattle.rows.specs.Limits.{rowMost}
 use Rattle.rows.specs.Parse.{table as entries}
+use Rattle.rows.specs.Classes.{classes}
 use Rattle.rows.specs.Row.{pick, symbol, allowed, sized, verdict, orElse, reading}
-use Rattle.rows.specs.Refusals.{_then_, refuseIf, alphabetSize, aritiesFit, someLeaf, asKept, asPattern, asReplacement, sizes, symbols, differs, fresh, pattern, replacement, position, grown, output}
+use Rattle.rows.specs.Refusals.{_then_, refuseIf, alphabetSize, aritiesFit, someLeaf, asKept, asPattern, asReplacement, sizes, symbols, differs, fresh, classed, pattern, replacement, position, grown, output}
 use Rattle.rows.specs.declared.Fault.{Fault}
 use Rattle.rows.specs.declared.Fault.the-variants.{Empty, Long, Stray, Early, Extra}
 use Rattle.rows.specs.declared.Verdict.{Verdict}
@@ -22,16 +23,17 @@ use Rattle.rows.specs.declared.Leaves.{Leaves}
 use Rattle.rows.specs.declared.Leaves.the-variants.{Symbols, Blanks}
 use Rattle.rows.specs.declared.Arities.the-variants.{Count, Over, NoLeaf}
 use Rattle.rows.specs.declared.Kept.{Kept}
-use Rattle.rows.specs.declared.Kept.the-variants.{Misread, Short, Stale}
+use Rattle.rows.specs.declared.Kept.the-variants.{Misread, Short, Stale, Misclassed}
 use Rattle.rows.specs.declared.Refusal.{Refusal}
 use Rattle.rows.specs.declared.Refusal.the-variants.{Arities, Row, OnRecord, Position, TooLong, OutputShort}
 use Rattle.rows.specs.declared.Check.{Check}
 use Rattle.rows.specs.declared.Check.the-variants.{Fine, Refused}
 use Rattle.rows.proofs.Entry.{length-table}
+use Rattle.rows.proofs.Classes.{class-of-row}
 use Rattle.rows.proofs.Passing.{below, clash, row-fine}
 use Rattle.rows.proofs.Scan.{sized-fits, sized-whole}
 use Rattle.refusal_numbers.specs.Numbers.{rowNumber, patternNumber, replacementNumber, faultPlace, keptNumber, onRecordNumber, keptPlace, number, place}
-use Rattle.refusal_numbers.specs.Table.{Refuses, FirstOver, FirstStale, WrongLength, NotOneTree, WrongList, WrongSizes, Table}
+use Rattle.refusal_numbers.specs.Table.{Refuses, FirstOver, FirstOther, FirstStale, FirstMisclassed, WrongLength, NotOneTree, WrongList, WrongSizes, Table}
 use Rattle.refusal_numbers.proofs.Reading.{Says, told, stray, early, extra}
 
 -- ---- checks
@@ -246,21 +248,21 @@ replacement-wrong A w k q = Iff·trans (replacement-finds (reading A Symbols 163
 
 -- ---- a row with what is kept beside it
 
--- the first place where the second list differs from the first
-abbrev FirstOther : List ℕ → List ℕ → ℕ → Type 0
-FirstOther l t p = (getD t p 0 ≡ getD l p 0 → ⊥) × ((k : ℕ) → k < p → getD t k 0 ≡ getD l k 0)
+-- place p is the first where the second list differs from the first
+abbrev OtherAt : List ℕ → List ℕ → ℕ → Type 0
+OtherAt l t p = (getD t p 0 ≡ getD l p 0 → ⊥) × ((k : ℕ) → k < p → getD t k 0 ≡ getD l k 0)
 
 -- up to place n two lists are the same, or there is a first place where they differ
-first-other : (l t : List ℕ) (n : ℕ) → ((k : ℕ) → k < n → getD t k 0 ≡ getD l k 0) ⊎ ((p : ℕ) × (p < n) × FirstOther l t p)
-first-other l t zero = inl (λ k h. absurd (omega arith))
-first-other l t (suc n) =
+other-or-same : (l t : List ℕ) (n : ℕ) → ((k : ℕ) → k < n → getD t k 0 ≡ getD l k 0) ⊎ ((p : ℕ) × (p < n) × OtherAt l t p)
+other-or-same l t zero = inl (λ k h. absurd (omega arith))
+other-or-same l t (suc n) =
     ⊎-elim
     (λ same. go (eqb (getD t n 0) (getD l n 0)) refl same)
     (λ s. inr (s .0, omega (arith, s .1), s .2))
-    (first-other l t n)
+    (other-or-same l t n)
   where
     go : (b : Bool) → eqb (getD t n 0) (getD l n 0) ≡ b → ((k : ℕ) → k < n → getD t k 0 ≡ getD l k 0)
-        → ((k : ℕ) → k < suc n → getD t k 0 ≡ getD l k 0) ⊎ ((p : ℕ) × (p < suc n) × FirstOther l t p)
+        → ((k : ℕ) → k < suc n → getD t k 0 ≡ getD l k 0) ⊎ ((p : ℕ) × (p < suc n) × OtherAt l t p)
     go true e same =
         inl (λ k h.
         below k n
@@ -268,12 +270,63 @@ first-other l t (suc n) =
         (λ i. (let last : n ≡ k = omega arith in subst (λ (j : ℕ). getD t j 0 ≡ getD l j 0) last (eqb-true (getD t n 0) (getD l n 0) e))))
     go false e same = inr (n, omega arith, (eqb-false (getD t n 0) (getD l n 0) e, same))
 
-stale-first : (A w t : List ℕ) (k : ℕ) → k < length w → (getD t k 0 ≡ getD (entries A w) k 0 → ⊥) → (p : ℕ) × FirstStale A w t p
-stale-first A w t k h d =
+other-first : (right l : List ℕ) (n k : ℕ) → k < n → (getD l k 0 ≡ getD right k 0 → ⊥) → (p : ℕ) × FirstOther right l n p
+other-first right l n k h d =
     ⊎-elim
     (λ same. absurd (d (same k h)))
     (λ s. (s .0, record { within = s .1; differs = s .2 .0; before = s .2 .1 }))
-    (first-other (entries A w) t (length w))
+    (other-or-same right l n)
+
+-- What is refused for a place where the lists differ: `of` gives its number.
+module _ (wrong : ℕ → Refusal) (of : ℕ → ℕ) (numbers : (p : ℕ) → number (wrong p) ≡ of p) (places : (p : ℕ) → place (wrong p) ≡ p) where
+  -- the check names the first such place
+  differs-first : (l t : List ℕ) (at p : ℕ) → length l ≤ length t → p < length l → OtherAt l t p → differs wrong at l t ≡ Refused (wrong (at + p))
+  unfolding differs
+  differs-first [] t at p long h d = absurd (omega arith)
+  differs-first (x ∷ l) [] at p long h d = absurd (omega arith)
+  differs-first (x ∷ l) (y ∷ t) at zero long h d = rw (ne-eqb y x (d .0)) (ap (λ (k : ℕ). Refused (wrong k)) (sym (add-zero at)))
+  differs-first (x ∷ l) (y ∷ t) at (suc p) long h d =
+      let same : y ≡ x = d .1 0 (omega arith) in
+      let up : at + 1 + p ≡ at + suc p = omega arith in
+      rw (eq-eqb y x same)
+      (differs-first l t (at + 1) p (omega arith) (omega arith) (d .0, λ k i. d .1 (suc k) (omega arith)) ∙ ap (λ (k : ℕ). Refused (wrong k)) up)
+
+  -- it is fine with the same lists
+  differs-none : (l t : List ℕ) (at : ℕ) → length l ≤ length t → ((k : ℕ) → k < length l → getD t k 0 ≡ getD l k 0) → differs wrong at l t ≡ Fine
+  unfolding differs
+  differs-none [] t at long same = refl
+  differs-none (x ∷ l) [] at long same = absurd (omega arith)
+  differs-none (x ∷ l) (y ∷ t) at long same =
+      let here : y ≡ x = same 0 (omega arith) in
+      rw (eq-eqb y x here) (differs-none l t (at + 1) (omega arith) (λ k i. same (suc k) (omega arith)))
+
+  differs-wrong : (l t : List ℕ) (n : ℕ) → length l ≡ n → n ≤ length t → (k q : ℕ)
+      → Refuses (differs wrong 0 l t) k q ↔ ((k ≡ of q) × FirstOther l t n q)
+  differs-wrong l t n size long k q = (to, λ h. from (h .0) (h .1))
+    where
+      named : (p : ℕ) → p < n → OtherAt l t p → differs wrong 0 l t ≡ Refused (wrong p)
+      named p h d = differs-first l t 0 p (omega arith) (omega arith) d ∙ ap (λ (j : ℕ). Refused (wrong j)) (zero-add p)
+
+      from : k ≡ of q → FirstOther l t n q → Refuses (differs wrong 0 l t) k q
+      from e f =
+          is-refused (differs wrong 0 l t) (wrong q) k q (named q (f .within) (f .differs, f .before)) (e ∙ sym (numbers q)) (sym (places q))
+
+      none : ((j : ℕ) → j < n → getD t j 0 ≡ getD l j 0) → differs wrong 0 l t ≡ Fine
+      none same = differs-none l t 0 (omega arith) (λ j i. same j (omega arith))
+
+      first : (p : ℕ) → p < n → OtherAt l t p → Refuses (differs wrong 0 l t) k q → (k ≡ of q) × FirstOther l t n q
+      first p h d r =
+          let x : Refuses (Refused (wrong p)) k q = subst (λ (c : Check). Refuses c k q) (named p h d) r in
+          let there : p ≡ q = sym (x .1 ∙ places p) in
+          let here : FirstOther l t n p = record { within = h; differs = d .0; before = d .1 } in
+          (x .0 ∙ numbers p ∙ ap of there, subst (FirstOther l t n) there here)
+
+      to : Refuses (differs wrong 0 l t) k q → (k ≡ of q) × FirstOther l t n q
+      to r =
+          ⊎-elim
+          (λ same. absurd (subst (λ (c : Check). Refuses c k q) (none same) r))
+          (λ s. first (s .0) (s .1) (s .2) r)
+          (other-or-same l t n)
 
 -- `whose` fault it is: `of` gives its number
 module _ (whose : Kept → Refusal) (of : Kept → ℕ) (numbers : (x : Kept) → number (whose x) ≡ of x) (places : (x : Kept) → place (whose x) ≡ keptPlace x) where
@@ -315,61 +368,27 @@ module _ (whose : Kept → Refusal) (of : Kept → ℕ) (numbers : (x : Kept) �
   unfolding symbols
   symbols-wrong A w k q = Iff·trans (kept-finds (verdict A (symbol A) 1 0 w) k q) (verdict-finds (λ f. of (Misread f)) k q A (symbol A) w)
 
-  -- the check names the first place where the lists differ
-  differs-first : (l t : List ℕ) (at p : ℕ) → length l ≤ length t → p < length l → FirstOther l t p
-      → differs whose at l t ≡ Refused (whose (Stale (at + p)))
-  unfolding differs
-  differs-first [] t at p long h d = absurd (omega arith)
-  differs-first (x ∷ l) [] at p long h d = absurd (omega arith)
-  differs-first (x ∷ l) (y ∷ t) at zero long h d = rw (ne-eqb y x (d .0)) (ap (λ (k : ℕ). Refused (whose (Stale k))) (sym (add-zero at)))
-  differs-first (x ∷ l) (y ∷ t) at (suc p) long h d =
-      let same : y ≡ x = d .1 0 (omega arith) in
-      let up : at + 1 + p ≡ at + suc p = omega arith in
-      rw (eq-eqb y x same)
-      (differs-first l t (at + 1) p (omega arith) (omega arith) (d .0, λ k i. d .1 (suc k) (omega arith)) ∙ ap (λ (k : ℕ). Refused (whose (Stale k))) up)
-
-  -- it is fine with the same lists
-  differs-none : (l t : List ℕ) (at : ℕ) → length l ≤ length t → ((k : ℕ) → k < length l → getD t k 0 ≡ getD l k 0) → differs whose at l t ≡ Fine
-  unfolding differs
-  differs-none [] t at long same = refl
-  differs-none (x ∷ l) [] at long same = absurd (omega arith)
-  differs-none (x ∷ l) (y ∷ t) at long same =
-      let here : y ≡ x = same 0 (omega arith) in
-      rw (eq-eqb y x here) (differs-none l t (at + 1) (omega arith) (λ k i. same (suc k) (omega arith)))
-
   stale-wrong : (A w t : List ℕ) (k q : ℕ) → length w ≤ length t → Refuses (fresh whose A w t) k q ↔ ((k ≡ of (Stale q)) × FirstStale A w t q)
   unfolding fresh
-  stale-wrong A w t k q long = (to, λ h. from (h .0) (h .1))
-    where
-      size : length (entries A w) ≡ length w
-      size = length-table A w
+  stale-wrong A w t k q long =
+      differs-wrong (λ p. whose (Stale p)) (λ p. of (Stale p)) (λ p. numbers (Stale p)) (λ p. places (Stale p)) (entries A w) t (length w) (length-table A w) long k q
 
-      named : (p : ℕ) → p < length w → FirstOther (entries A w) t p → fresh whose A w t ≡ Refused (whose (Stale p))
-      named p h d = differs-first (entries A w) t 0 p (omega (arith, size)) (omega (arith, size)) d ∙ ap (λ (j : ℕ). Refused (whose (Stale j))) (zero-add p)
-
-      from : k ≡ of (Stale q) → FirstStale A w t q → Refuses (fresh whose A w t) k q
-      from e f =
-          is-refused (fresh whose A w t) (whose (Stale q)) k q
-          (named q (f .within) (f .differs, f .before))
-          (e ∙ sym (numbers (Stale q)))
-          (sym (places (Stale q)))
-
-      none : ((j : ℕ) → j < length w → getD t j 0 ≡ getD (entries A w) j 0) → fresh whose A w t ≡ Fine
-      none same = differs-none (entries A w) t 0 (omega (arith, size)) (λ j i. same j (omega (arith, size)))
-
-      first : (p : ℕ) → p < length w → FirstOther (entries A w) t p → Refuses (fresh whose A w t) k q → (k ≡ of (Stale q)) × FirstStale A w t q
-      first p h d r =
-          let x : Refuses (Refused (whose (Stale p))) k q = subst (λ (c : Check). Refuses c k q) (named p h d) r in
-          let there : p ≡ q = sym (x .1 ∙ places (Stale p)) in
-          let here : FirstStale A w t p = record { within = h; differs = d .0; before = d .1 } in
-          (x .0 ∙ numbers (Stale p) ∙ ap (λ (j : ℕ). of (Stale j)) there, subst (FirstStale A w t) there here)
-
-      to : Refuses (fresh whose A w t) k q → (k ≡ of (Stale q)) × FirstStale A w t q
-      to r =
-          ⊎-elim
-          (λ same. absurd (subst (λ (c : Check). Refuses c k q) (none same) r))
-          (λ s. first (s .0) (s .1) (s .2) r)
-          (first-other (entries A w) t (length w))
+  misclassed-wrong : (A w c : List ℕ) (k q : ℕ) → length w ≤ length c
+      → Refuses (classed whose A w c) k q ↔ ((k ≡ of (Misclassed q)) × FirstMisclassed A w c q)
+  unfolding classed
+  misclassed-wrong A w c k q long =
+      differs-wrong
+      (λ p. whose (Misclassed p))
+      (λ p. of (Misclassed p))
+      (λ p. numbers (Misclassed p))
+      (λ p. places (Misclassed p))
+      (classes A w)
+      c
+      (length w)
+      (class-of-row A w .0)
+      long
+      k
+      q
 
 plain-row : (A w : List ℕ) (k q : ℕ) → Refuses (asKept Row (reading A Symbols rowMost w)) k q ↔ WrongList 4 5 7 8 9 16384 A (symbol A) w k q
 plain-row A w k q = Iff·trans (kept-finds Row keptNumber (λ x. refl) (λ x. refl) (reading A Symbols 16384 w) k q) (reading-finds rowNumber k q A Symbols 16384 w)
@@ -387,7 +406,9 @@ table =
       on-record-symbols = symbols-wrong OnRecord onRecordNumber (λ x. refl) (λ x. refl);
       stale = stale-wrong Row keptNumber (λ x. refl) (λ x. refl);
       on-record-stale = stale-wrong OnRecord onRecordNumber (λ x. refl) (λ x. refl);
-      stale-first = stale-first;
+      misclassed = misclassed-wrong Row keptNumber (λ x. refl) (λ x. refl);
+      on-record-misclassed = misclassed-wrong OnRecord onRecordNumber (λ x. refl) (λ x. refl);
+      other-first = other-first;
       pattern-wrong = pattern-wrong;
       replacement-wrong = replacement-wrong;
       position-past = position-past;

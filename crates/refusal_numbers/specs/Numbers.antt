@@ -5,7 +5,7 @@ use Rattle.rows.specs.declared.Fault.the-variants.{Empty, Long, Stray, Early, E
 use Rattle.rows.specs.declared.Arities.{Arities as Alphabet}
 use Rattle.rows.specs.declared.Arities.the-variants.{Count, Over, NoLeaf}
 use Rattle.rows.specs.declared.Kept.{Kept}
-use Rattle.rows.specs.declared.Kept.the-variants.{Misread, Short, Stale}
+use Rattle.rows.specs.declared.Kept.the-variants.{Misread, Short, Stale, Misclassed}
 use Rattle.rows.specs.declared.Text.{Text}
 use Rattle.rows.specs.declared.Text.the-variants.{Line, Bytes}
 use Rattle.rows.specs.declared.Refusal.{Refusal}
@@ -51,6 +51,7 @@ abbrev pub keptNumber : Kept → ℕ
 keptNumber (Misread f) = rowNumber f
 keptNumber (Short n) = 6
 keptNumber (Stale p) = 10
+keptNumber (Misclassed p) = 62
 
 -- of the row on record: 40 more
 unfoldable pub onRecordNumber : Kept → ℕ
@@ -60,6 +61,7 @@ abbrev pub keptPlace : Kept → ℕ
 keptPlace (Misread f) = faultPlace f
 keptPlace (Short n) = n
 keptPlace (Stale p) = p
+keptPlace (Misclassed p) = p
 
 -- a fault in the input of a program
 abbrev pub textNumber : Text → ℕ

@@ -10,8 +10,9 @@ use lib.ListN.{length, getD, take}
 use Rattle.rows.specs.Limits.{rowMost}
 use Rattle.rows.specs.Tree.{IsRow}
 use Rattle.rows.specs.Parse.{table}
+use Rattle.rows.specs.Classes.{classes}
 use Rattle.rows.specs.Row.{symbol, allowed, reading}
-use Rattle.rows.specs.Refusals.{_then_, alphabetSize, aritiesFit, someLeaf, asKept, sizes, symbols, fresh, pattern, replacement, position, grown, output}
+use Rattle.rows.specs.Refusals.{_then_, alphabetSize, aritiesFit, someLeaf, asKept, sizes, symbols, fresh, classed, pattern, replacement, position, grown, output}
 use Rattle.rows.specs.declared.Leaves.the-variants.{Symbols, Blanks}
 use Rattle.rows.specs.declared.Text.the-variants.{Line, Bytes}
 use Rattle.rows.specs.declared.Refusal.the-variants.{Row, OnRecord, Input}
@@ -30,11 +31,18 @@ pub record FirstOver (A : List ℕ) (s : ℕ) : Type 0 where
   pub over : 15 < getD A s 0
   pub before : (k : ℕ) → k < s → getD A k 0 ≤ 15
 
--- p is the first of the row's positions where the table t differs from the row's
-pub record FirstStale (A w t : List ℕ) (p : ℕ) : Type 0 where
-  pub within : p < length w
-  pub differs : getD t p 0 ≡ getD (table A w) p 0 → ⊥
-  pub before : (k : ℕ) → k < p → getD t k 0 ≡ getD (table A w) k 0
+-- p is the first of n places where the list l differs from the right one
+pub record FirstOther (right l : List ℕ) (n p : ℕ) : Type 0 where
+  pub within : p < n
+  pub differs : getD l p 0 ≡ getD right p 0 → ⊥
+  pub before : (k : ℕ) → k < p → getD l k 0 ≡ getD right k 0
+
+-- p is the first of the row's positions where the table t, where the list of classes c, differs from the row's
+abbrev pub FirstStale : List ℕ → List ℕ → List ℕ → ℕ → Type 0
+FirstStale A w t p = FirstOther (table A w) t (length w) p
+
+abbrev pub FirstMisclassed : List ℕ → List ℕ → List ℕ → ℕ → Type 0
+FirstMisclassed A w c p = FirstOther (classes A w) c (length w) p
 
 -- up to place p nothing is wrong and no tree has ended: each number before p may stand, and no beginning of at most p numbers
 -- is the row of a tree
@@ -81,21 +89,25 @@ pub record Table : Type 0 where
   -- 7, 8, 9: a number in the row is no symbol; the row ends before its tree does; it goes on after its tree.
   pub row-symbols : (A w : List ℕ) (k q : ℕ) → Refuses (symbols Row A w) k q ↔ NotOneTree 7 8 9 A (symbol A) w k q
   pub on-record-symbols : (A w : List ℕ) (k q : ℕ) → Refuses (symbols OnRecord A w) k q ↔ NotOneTree 47 48 49 A (symbol A) w k q
-  -- 10: stale: a table entry differs from the row's. First such position; and where an entry differs there is a first one.
+  -- 10: stale: a table entry differs from the row's. First such position.
   pub stale : (A w t : List ℕ) (k q : ℕ) → length w ≤ length t → Refuses (fresh Row A w t) k q ↔ ((k ≡ 10) × FirstStale A w t q)
   pub on-record-stale : (A w t : List ℕ) (k q : ℕ) → length w ≤ length t → Refuses (fresh OnRecord A w t) k q ↔ ((k ≡ 50) × FirstStale A w t q)
-  pub stale-first : (A w t : List ℕ) (k : ℕ) → k < length w → (getD t k 0 ≡ getD (table A w) k 0 → ⊥) → (p : ℕ) × FirstStale A w t p
+  -- 62: a class differs from the row's. First such position; of the row on record 102.
+  pub misclassed : (A w c : List ℕ) (k q : ℕ) → length w ≤ length c → Refuses (classed Row A w c) k q ↔ ((k ≡ 62) × FirstMisclassed A w c q)
+  pub on-record-misclassed : (A w c : List ℕ) (k q : ℕ) → length w ≤ length c → Refuses (classed OnRecord A w c) k q ↔ ((k ≡ 102) × FirstMisclassed A w c q)
+  -- where an entry or a class differs there is a first one
+  pub other-first : (right l : List ℕ) (n k : ℕ) → k < n → (getD l k 0 ≡ getD right k 0 → ⊥) → (p : ℕ) × FirstOther right l n p
   -- 11, 12: pattern empty; over 256. 13, 14, 15: as 7, 8, 9 for the pattern, where S and variables are allowed.
   pub pattern-wrong : (A w : List ℕ) (k q : ℕ) → Refuses (pattern A w) k q ↔ WrongList 11 12 13 14 15 256 A (allowed Blanks A) w k q
   -- 24, 25, 27, 28, 29: as 4, 5, 7, 8, 9 for the replacement
   pub replacement-wrong : (A w : List ℕ) (k q : ℕ) → Refuses (replacement A w) k q ↔ WrongList 24 25 27 28 29 16384 A (symbol A) w k q
   -- 17: position not below the row length. The position.
   pub position-past : (n p k q : ℕ) → Refuses (position n p) k q ↔ ((k ≡ 17) × (q ≡ p) × (n ≤ p))
-  -- 18: the row after replacement would be over 16,384, or longer than the row's buffer or the table. The new length.
+  -- 18: the row after replacement would be over 16,384, or longer than the row's buffer, the table or the classes. The new length.
   pub too-long : (m room k q : ℕ) → Refuses (grown m room) k q ↔ ((k ≡ 18) × (q ≡ m) × ((16384 < m) ⊎ (room < m)))
   -- 19: output too short. Room needed.
   pub output-short : (n m k q : ℕ) → Refuses (output n m) k q ↔ ((k ≡ 19) × (q ≡ n) × (m < n))
-  -- 4, 5, 7, 8, 9 of the plain matcher, which has no table
+  -- 4, 5, 7, 8, 9 of the plain matcher, which has nothing beside the row
   pub plain-row : (A w : List ℕ) (k q : ℕ) → Refuses (asKept Row (reading A Symbols rowMost w)) k q ↔ WrongList 4 5 7 8 9 16384 A (symbol A) w k q
   -- 60 and 61, of the program's input: a line, its number; too many bytes, 65,536
   pub line : (k : ℕ) → (number (Input (Line k)) ≡ 60) × (place (Input (Line k)) ≡ k)

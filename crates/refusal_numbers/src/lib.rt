@@ -82,6 +82,7 @@ fn kept_number(fault: Kept) -> usize
         Kept::Misread(f) => row_number(f),
         Kept::Short(_) => 6,
         Kept::Stale(_) => 10,
+        Kept::Misclassed(_) => 62,
     }
 }
 
@@ -99,6 +100,7 @@ fn kept_place(fault: Kept) -> usize
         Kept::Misread(f) => fault_place(f),
         Kept::Short(n) => n,
         Kept::Stale(p) => p,
+        Kept::Misclassed(p) => p,
     }
 }
 

@@ -7,6 +7,7 @@ use native.Mathlib.Nat.{add-zero, add-suc, zero-add}
 use native.Mathlib.Omega.{arith}
 use lib.ListN.{length, take, drop, set, length-append, length-take, length-drop, take-append-drop}
 use lib.Seq.{take-at, drop-at, drop-cons, set-at}
+use Rattle.rows.specs.Programme.{programme}
 use Rattle.rows.specs.Buffers.{written}
 
 pub length-written : (b : List ℕ) (at : ℕ) (v : List ℕ) → at + length v ≤ length b → length (written b at v) ≡ length b
@@ -34,3 +35,7 @@ written-snoc b at v x h =
     let l : length (take at b ++ v) ≡ at + length v = simp (length-append, length-take) (omega arith) in
     let s : length (v ++ (x ∷ [])) ≡ suc (length v) = simp length-append (omega arith) in
     rw (drop-cons b (at + length v) 0 h, ← append-assoc (take at b) v, set-at (take at b ++ v) _ _ x _ l, s, add-suc) (simp append-assoc)
+
+-- two programmes with the same lists
+pub same-programme : {w w′ t t′ c c′ : List ℕ} → w ≡ w′ → t ≡ t′ → c ≡ c′ → programme w t c ≡ programme w′ t′ c′
+same-programme x y z = λ i. record { row = x i; table = y i; classes = z i }

@@ -6,6 +6,10 @@ pub mod Checksum
 pub mod Behind
 pub mod Entry
 pub mod Subtrees
+pub mod Alike
+pub mod Children
+pub mod Classes
 pub mod Buffers
 pub mod Promises
 pub mod Passing
+pub mod Differ

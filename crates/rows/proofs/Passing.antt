@@ -33,6 +33,11 @@ pub both-fine : (a b : Check) → _then_ a b ≡ Fine → (a ≡ Fine) × (b ≡
 both-fine Fine b e = (refl, e)
 both-fine (Refused r) b e = absurd (clash (Refused r) r e refl)
 
+-- three checks in their order
+pub then-assoc : (a b c : Check) → (a then b) then c ≡ a then (b then c)
+then-assoc Fine b c = refl
+then-assoc (Refused r) b c = refl
+
 -- a check that is not fine is the first to refuse
 pub refused-first : (a b : Check) → (a ≡ Fine → ⊥) → a then b ≡ a
 refused-first Fine b n = absurd (n refl)

@@ -52,5 +52,6 @@ the-limits =
       to-X15 = refl;
       two-each = refl;
       freed-in-row = refl;
-      freed-beside = refl;
+      freed-in-table = refl;
+      freed-in-classes = refl;
     }

@@ -30,9 +30,12 @@ variables = 16
 abbrev pub spanPlaces : ℕ
 spanPlaces = 32
 
--- what freed places hold: in the row, and in what stands beside it
+-- what freed places hold: in the row, in the table, in the classes
 abbrev pub freedSymbol : ℕ
 freedSymbol = 65535
 
 abbrev pub freedEntry : ℕ
 freedEntry = 0
+
+abbrev pub freedClass : ℕ
+freedClass = 0

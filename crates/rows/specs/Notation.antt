@@ -7,7 +7,7 @@ use mathlib.Core.Bool.{Bool}
 use mathlib.Core.Logic.{_↔_}
 use lib.Dec.{T}
 use lib.ListN.{getD, length, take}
-use Rattle.rows.specs.Limits.{alphabetMost, arityMost, rowMost, patternMost, blank, firstVariable, variables, spanPlaces, freedSymbol, freedEntry}
+use Rattle.rows.specs.Limits.{alphabetMost, arityMost, rowMost, patternMost, blank, firstVariable, variables, spanPlaces, freedSymbol, freedEntry, freedClass}
 use Rattle.rows.specs.Tree.{IsRow, single, ends}
 use Rattle.rows.specs.Parse.{table}
 use Rattle.rows.specs.Row.{verdict}
@@ -55,4 +55,5 @@ pub record The-limits : Type 0 where
   pub to-X15 : variables ≡ 16
   pub two-each : spanPlaces ≡ 32
   pub freed-in-row : freedSymbol ≡ 65535
-  pub freed-beside : freedEntry ≡ 0
+  pub freed-in-table : freedEntry ≡ 0
+  pub freed-in-classes : freedClass ≡ 0

@@ -11,22 +11,23 @@ pub record Alphabet : Type 0 where
 abbrev pub alphabetOf : List ℕ → Alphabet
 alphabetOf A = record { arities = A }
 
--- a row, or the buffer that begins with it, and its table
+-- a row, or the buffer that begins with it, its table and its classes
 pub record Programme : Type 0 where
   pub row : List ℕ
   pub table : List ℕ
+  pub classes : List ℕ
 
-abbrev pub programme : List ℕ → List ℕ → Programme
-programme w t = record { row = w; table = t }
+abbrev pub programme : List ℕ → List ℕ → List ℕ → Programme
+programme w t c = record { row = w; table = t; classes = c }
 
 -- how many places the shortest of its lists has
 abbrev pub room : Programme → ℕ
-room P = min (length (P .row)) (length (P .table))
+room P = min (length (P .row)) (min (length (P .table)) (length (P .classes)))
 
 -- the programme whose row is the first n symbols
 abbrev pub front : ℕ → Programme → Programme
-front n P = record { row = take n (P .row); table = P .table }
+front n P = record { row = take n (P .row); table = P .table; classes = P .classes }
 
 -- the first n places of each of its lists
 abbrev pub cut : ℕ → Programme → Programme
-cut n P = record { row = take n (P .row); table = take n (P .table) }
+cut n P = record { row = take n (P .row); table = take n (P .table); classes = take n (P .classes) }

@@ -7,13 +7,14 @@ use lib.ListN.{length}
 use Rattle.rows.specs.Limits.{alphabetMost, arityMost, rowMost, patternMost}
 use Rattle.rows.specs.Row.{pick, verdict, allowed, sized, reading}
 use Rattle.rows.specs.Parse.{table}
+use Rattle.rows.specs.Classes.{classes}
 use Rattle.rows.specs.Programme.{Alphabet, Programme, room, front}
 use Rattle.rows.specs.declared.Verdict.{Verdict}
 use Rattle.rows.specs.declared.Verdict.the-variants.{Whole, Faulty}
 use Rattle.rows.specs.declared.Leaves.the-variants.{Symbols, Blanks}
 use Rattle.rows.specs.declared.Arities.the-variants.{Count, Over, NoLeaf}
 use Rattle.rows.specs.declared.Kept.{Kept}
-use Rattle.rows.specs.declared.Kept.the-variants.{Misread, Short, Stale}
+use Rattle.rows.specs.declared.Kept.the-variants.{Misread, Short, Stale, Misclassed}
 use Rattle.rows.specs.declared.Keeping.{Keeping}
 use Rattle.rows.specs.declared.Keeping.the-variants.{Sound, Unsound}
 use Rattle.rows.specs.declared.Refusal.{Refusal}
@@ -76,21 +77,29 @@ sizes whose n m = asKept whose (sized n rowMost) then refuseIf (ltb m n) (whose 
 unfoldable pub symbols : (Kept → Refusal) → List ℕ → List ℕ → Check
 symbols whose A w = asKept whose (verdict A (allowed Symbols A) 1 0 w)
 
--- the first place, from `at` on, where the second list differs from the first
-unfoldable pub differs : (Kept → Refusal) → ℕ → List ℕ → List ℕ → Check
-differs whose at [] t = Fine
-differs whose at (e ∷ es) [] = Refused (whose (Stale at))
-differs whose at (e ∷ es) (x ∷ t) = pick (eqb x e) (differs whose (at + 1) es t) (Refused (whose (Stale at)))
+-- the first place, from `at` on, where the second list differs from the first, and what is refused for it
+unfoldable pub differs : (ℕ → Refusal) → ℕ → List ℕ → List ℕ → Check
+differs wrong at [] t = Fine
+differs wrong at (e ∷ es) [] = Refused (wrong at)
+differs wrong at (e ∷ es) (x ∷ t) = pick (eqb x e) (differs wrong (at + 1) es t) (Refused (wrong at))
 
 -- 10: the table is the row's; entries past the row's length are not looked at
 unfoldable pub fresh : (Kept → Refusal) → List ℕ → List ℕ → List ℕ → Check
-fresh whose A w t = differs whose 0 (table A w) t
+fresh whose A w t = differs (λ k. whose (Stale k)) 0 (table A w) t
 
--- 4 to 10: a row of n symbols with what stands beside it
+-- 62: the classes are the row's; those past the row's length are not looked at
+unfoldable pub classed : (Kept → Refusal) → List ℕ → List ℕ → List ℕ → Check
+classed whose A w c = differs (λ k. whose (Misclassed k)) 0 (classes A w) c
+
+-- 4 to 10, then 62: a row of n symbols with what stands beside it
 unfoldable pub kept : (Kept → Refusal) → Alphabet → Programme → ℕ → Check
-kept whose a P n = sizes whose n (room P) then symbols whose (a .arities) (front n P .row) then fresh whose (a .arities) (front n P .row) (P .table)
+kept whose a P n =
+    sizes whose n (room P)
+    then symbols whose (a .arities) (front n P .row)
+    then fresh whose (a .arities) (front n P .row) (P .table)
+    then classed whose (a .arities) (front n P .row) (P .classes)
 
--- 1 to 10: an alphabet, and a row of n symbols with what stands beside it
+-- 1 to 10, then 62: an alphabet, and a row of n symbols with what stands beside it
 unfoldable pub given : Alphabet → Programme → ℕ → Check
 given a P n = alphabet a then kept Row a P n
 

@@ -23,7 +23,7 @@ pub const ROW_MOST: usize = 16384;
 pub const PATTERN_MOST: usize = 256;
 
 // The numbers with a meaning of their own: the blank S; the variable X0, how many variables there are, and how many places their
-// begins and ends take; what freed places hold in a row and in what stands beside it.
+// begins and ends take; what freed places hold in a row, in its table and in its classes.
 pub const BLANK: u16 = 65535;
 
 pub const FIRST_VARIABLE: u16 = 65280;
@@ -37,6 +37,8 @@ pub const SPAN_PLACES: usize = 32;
 pub const FREED_SYMBOL: u16 = 65535;
 
 pub const FREED_ENTRY: u16 = 0;
+
+pub const FREED_CLASS: u16 = 0;
 
 // What is wrong with a list that should be a tree's prefix notation: it is empty, it is too long, a number may not stand
 // in it, it ends before its tree does, it goes on after its tree.
@@ -66,11 +68,13 @@ pub enum Arities {
     NoLeaf,
 }
 
-// What is wrong with a row and what is kept beside it: its symbols, a list that is too short, an entry that is not the row's.
+// What is wrong with a row and what is kept beside it: its symbols, a list that is too short, an entry of the table or a class that
+// is not the row's.
 pub enum Kept {
     Misread(Fault),
     Short(usize),
     Stale(usize),
+    Misclassed(usize),
 }
 
 pub enum Keeping {
@@ -343,6 +347,13 @@ pub fn shorter(a: usize, b: usize) -> usize
     ensures { λ r. ⌜ r ≡ min a b ⌝ }
 {
     if a < b { a } else { b }
+}
+
+// The shortest of three.
+pub fn shortest(a: usize, b: usize, c: usize) -> usize
+    ensures { λ r. ⌜ r ≡ min a (min b c) ⌝ }
+{
+    shorter(a, shorter(b, c))
 }
 
 // Refusals 4, 5 and 6, for a row of n symbols and lists with `room` places or more.

@@ -1,7 +1,8 @@
 // A case's line: a word, then lists of numbers with a bar between each two. In a list
 //     7          is a number, and 7x10 is ten times 7;
 //     S and X3   are the subtree mark and the variable 3, which are 65535 and 65283;
-//     A, T, E    are alphabet A and row T of docs/SCOPE.md, and the ends of T's subtrees, which are its table.
+//     P9         is the positions 0 to 8, that is, the classes of a row of which no two subtrees are equal;
+//     A, T, E, C are alphabet A and row T of docs/SCOPE.md, the ends of T's subtrees, which are its table, and its classes.
 ghost use mathlib.Core.Path.{_≡_};
 ghost use Prim.Native.Nat.{_≤_};
 ghost use lib.ListN.{length};
@@ -11,10 +12,10 @@ use std::num::wrapping_add_u16;
 const BAR: u16 = 60000;
 
 // Room for the numbers of a case.
-pub fn room() -> [u16; 40000]
-    ensures { λ r. ⌜ 40000 ≡ length r ⌝ }
+pub fn room() -> [u16; 50000]
+    ensures { λ r. ⌜ 50000 ≡ length r ⌝ }
 {
-    [0u16; 40000]
+    [0u16; 50000]
 }
 
 // The byte at a position; 0 past the end.
@@ -58,6 +59,18 @@ fn repeat(room: &mut [u16], first: usize, times: u16) -> usize
     let mut n = first;
     for i in 1..times {
         n = push(room, n, value);
+    }
+    n
+}
+
+// The numbers below `many`, rising.
+fn rise(room: &mut [u16], first: usize, many: u16) -> usize
+    requires { ⌜ first ≤ length (now room) ⌝ }
+    ensures { λ r. ⌜ r ≤ length (now (room .exit)) ⌝ }
+{
+    let mut n = first;
+    for i in 0..many {
+        n = push(room, n, i);
     }
     n
 }
@@ -124,6 +137,7 @@ fn put_named(name: u8, room: &mut [u16], first: usize) -> usize
         b'A' => copy(&[0u16, 0, 1, 2, 3], room, first),
         b'T' => copy(&[4u16, 3, 0, 0, 2, 1, 3, 0, 0], room, first),
         b'E' => copy(&[9u16, 4, 3, 4, 6, 6, 9, 8, 9], room, first),
+        b'C' => copy(&[0u16, 1, 2, 2, 4, 5, 1, 2, 2], room, first),
         _ => first,
     }
 }
@@ -138,6 +152,7 @@ fn put(mark: u8, digits: &[u8], room: &mut [u16], first: usize) -> usize
         b'X' => push(room, first, wrapping_add_u16(65280, value(digits))),
         b'|' => push(room, first, BAR),
         b'x' => repeat(room, first, value(digits)),
+        b'P' => rise(room, first, value(digits)),
         b' ' => {
             if digits.len() == 0 {
                 return first;

@@ -11,7 +11,8 @@ use Rattle.rows.specs.Parse.{table}
 use Rattle.rows.specs.Buffers.{written}
 use Rattle.patterns.specs.Answers.{facing, spansBelow}
 use Rattle.patterns.specs.Searchable.{Checked}
-use Rattle.patterns.specs.Walk.{Outcome.misses, Outcome.reaches, walk, unmarked, markBegin, markEnd}
+use Rattle.patterns.specs.Walk.{Outcome, Outcome.misses, Outcome.reaches, Misses, walk, unmarked, markBegin, markEnd}
+use Rattle.patterns.specs.declared.Walked.{Walked}
 use Rattle.patterns.specs.declared.Walked.the-variants.{Through, Fails}
 use Rattle.patterns.proofs.Facing.{span-seat, mark-is}
 use Rattle.patterns.proofs.Matching.{walk-marks, walk-matches, missed}
@@ -47,6 +48,13 @@ variables-none P q p y k x inside z a c =
       answer = (missed a P q c p inside k x (z (P .table) (lent-ends P)), z (table (a .arities) (P .row)) (own-ends a P q c));
       buffer = refl;
     }
+
+-- the code's answer for the step o that misses
+pub variables-missed : (P : Programme) (q : List ℕ) (p : ℕ) (y : List ℕ) (r : Walked) (o : Outcome) → p < length (P .row) → Misses o r
+    → ((k x : ℕ) → o ≡ misses k x → (e : List ℕ) → SameEnds P e → walk (P .row) e 0 q p unmarked ≡ misses k x) → (a : Alphabet) → Checked a P q
+    → VariablesAt a (P .row) q p y r y
+variables-missed P q p y Through o inside m stops a c = absurd m
+variables-missed P q p y (Fails k x) o inside m stops a c = variables-none P q p y k x inside (stops k x m) a c
 
 pub variables-some : (P : Programme) (q : List ℕ) (p : ℕ) (y y′ : List ℕ) (j : ℕ) (ms : List ℕ) → p < length (P .row)
     → walk (P .row) (P .table) 0 q p unmarked ≡ reaches j ms → y′ ≡ written y 0 (markSpans (P .table) ms variables)

@@ -27,7 +27,7 @@ use Rattle.tables.specs.Given.{Right}
 use Rattle.tables.proofs.Given.{right-entry}
 use Rattle.patterns.specs.Pattern.{leaf}
 use Rattle.patterns.specs.Searchable.{Checked, Searchable}
-use Rattle.patterns.specs.Walk.{sameSymbol, agreeing, Alike, Outcome, Outcome.misses, Outcome.reaches, meets, takes, steps, onward, walk, unmarked, MarksIn, stepped, marksAfter, Stepping}
+use Rattle.patterns.specs.Walk.{sameSymbol, agreeing, Alike, Outcome, Outcome.misses, Outcome.reaches, meets, takes, steps, onward, walk, unmarked, through, MarksIn, stepped, marksAfter, Stepping}
 use Rattle.patterns.specs.declared.Leaf.{Leaf}
 use Rattle.patterns.specs.declared.Leaf.the-variants.{Plain, Blank, Variable}
 use Rattle.patterns.specs.declared.Stepped.{Stepped}
@@ -207,11 +207,19 @@ module _ (P : Programme) (q : List ℕ) (p : ℕ) where
             go (misses x y) t z m = let x : _≡_ {A = ℕ} 0 1 = cc in absurd (omega arith)
             go (reaches n′ ms″) t z m = let x : n′ ≡ n = cc in walking-to n ms′ (t ∙ ap₂ reaches x (sym m))
 
-        pub walking-miss : (x y : ℕ) → r ≡ Miss x y → (e : List ℕ) → SameEnds P e → walk (P .row) e 0 q p unmarked ≡ misses x y
-        walking-miss x y z = go here refl (sym (b .answer) ∙ z)
+        -- a step that misses leaves the marks
+        pub missed-marks : r ≡ Miss → ms′ ≡ ms
+        missed-marks z = go here (sym (b .answer) ∙ z) (b .marks)
           where
-            go : (o : Outcome) → here ≡ o → stepped o ≡ Miss x y → (e : List ℕ) → SameEnds P e → walk (P .row) e 0 q p unmarked ≡ misses x y
-            go (misses x′ y′) t z = let there : x′ ≡ x = cc in let same : y′ ≡ y = cc in walking-stops x y (t ∙ ap₂ misses there same)
+            go : (o : Outcome) → stepped o ≡ Miss → ms′ ≡ marksAfter ms o → ms′ ≡ ms
+            go (misses x y) t m = m
+            go (reaches n ms″) t m = let x : _≡_ {A = ℕ} 0 1 = cc in absurd (omega arith)
+
+        pub walking-miss : r ≡ Miss → through (walk (P .row) (P .table) 0 q p unmarked) ≡ false
+        walking-miss z = go here refl (sym (b .answer) ∙ z)
+          where
+            go : (o : Outcome) → here ≡ o → stepped o ≡ Miss → through (walk (P .row) (P .table) 0 q p unmarked) ≡ false
+            go (misses x y) t z = ap through (walking-stops x y t (P .table) (lent-ends P))
             go (reaches n ms″) t z = let x : _≡_ {A = ℕ} 0 1 = cc in absurd (omega arith)
 
 -- where the front of the pattern stands in the row, its numbers are passed

@@ -19,6 +19,7 @@ use Rattle.patterns.specs.declared.Leaf.the-variants.{Variable}
 use Rattle.patterns.proofs.Facing.{small}
 use Rattle.patterns.proofs.Leaves.{variable-from, leaf-variable}
 use Rattle.patterns.proofs.Marks.{marks-none}
+use Rattle.patterns.proofs.Matching.{checked-ends, checked-classes}
 use Rattle.patterns.proofs.Steps.{meets-first, meets-later, steps-variable}
 use Rattle.searches.specs.Searches.{Twin, twins}
 use Rattle.searches.proofs.Going.{lent-ends, Walking, walking-inside, walking-to, walking-end, walking-stops}
@@ -91,14 +92,15 @@ module _ (P : Programme) (q : List ℕ) (s : Searchable P q) (t : Twin q) (p : �
 
   second-step : (c : Bool) → twice w a b n ≡ c → steps w e 2 (getD q 2 0) b marked ≡ pick c (reaches (getD e b 0) marked) (misses 2 (b + agreeing w a b n))
   second-step c z =
-      let first : getD marked i 0 - 1 ≡ a = omega (arith, mark) in
       ap (λ (y : ℕ). steps w e 2 y b marked) (t .same)
       ∙ steps-variable w e 2 x b marked (other b) i is-leaf
-      ∙ meets-later w (getD e b 0) 2 b marked i (λ y. omega (arith, mark, y)) (agreeing w a b n) (ap (λ (m : ℕ). agreeing w m b n) (sym first)) c z
+      ∙ meets-later w (getD e b 0) 2 b marked i a (omega (arith, mark)) c z
 
-  pub twins-walk : twins w e p ≡ comesThrough w e q p
+  pub twins-walk : twins e (P .classes) p ≡ comesThrough w e q p
   unfolding twins
-  twins-walk = go (twice w a b n) refl
+  twins-walk =
+      sym (checked-classes (s .0) P q (s .1) .same a b (checked-ends (s .0) P q (s .1) .past a first-in) second-in)
+      ∙ go (twice w a b n) refl
     where
       go : (c : Bool) → twice w a b n ≡ c → c ≡ comesThrough w e q p
       go true z =

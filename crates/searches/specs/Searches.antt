@@ -6,6 +6,7 @@ use mathlib.Core.List.{List, [], _∷_}
 use mathlib.Core.Bool.{Bool, true, false}
 use lib.Dec.{eqb}
 use lib.ListN.{length, getD}
+use Rattle.rows.specs.Limits.{rowMost}
 use Rattle.rows.specs.Programme.{Alphabet, Programme}
 use Rattle.rows.specs.Parse.{table}
 use Rattle.rows.specs.Row.{pick, isVariable}
@@ -13,7 +14,7 @@ use Rattle.rows.specs.Buffers.{written}
 use Rattle.patterns.specs.Answers.{MatchesAt, Listed, spans}
 use Rattle.patterns.specs.Pattern.{leaf}
 use Rattle.patterns.specs.Searchable.{Checked, Searchable, BlankFrom}
-use Rattle.patterns.specs.Walk.{below, sameSymbol, twice, Ends, walk, unmarked, Decides, afterWalk}
+use Rattle.patterns.specs.Walk.{below, sameSymbol, walk, unmarked, Decides, afterWalk}
 use Rattle.patterns.specs.declared.Leaf.the-variants.{Plain, Blank}
 use Rattle.patterns.specs.declared.Walked.{Walked}
 use Rattle.searches.specs.declared.Outline.{Outline}
@@ -59,15 +60,16 @@ pub record Twin (q : List ℕ) : Type 0 where
   pub same : getD q 2 0 ≡ getD q 1 0
   pub variable : isVariable (getD q 1 0) ≡ true
 
--- the two subtrees of the symbol at position p of the row w with the ends e are the same
+-- the two subtrees of the symbol at position p of a row with the ends e have one class
 unfoldable pub twins : List ℕ → List ℕ → ℕ → Bool
-twins w e p = twice w (p + 1) (getD e (p + 1) 0) (getD e (getD e (p + 1) 0) 0 - getD e (p + 1) 0)
+twins e c p = eqb (getD c (p + 1) 0) (getD c (getD e (p + 1) 0) 0)
 
--- at n positions of the row two subtrees stand behind the symbol
-pub record Paired (w e ps : List ℕ) (n : ℕ) : Type 0 where
-  pub ends : Ends w e
-  pub first : (i : ℕ) → i < n → getD ps i 0 + 1 < length w
-  pub second : (i : ℕ) → i < n → getD e (getD ps i 0 + 1) 0 < length w
+-- at n positions two subtrees stand behind the symbol, which have classes
+pub record Paired (e c ps : List ℕ) (n : ℕ) : Type 0 where
+  pub small : (i : ℕ) → i < n → getD ps i 0 < rowMost
+  pub first : (i : ℕ) → i < n → getD ps i 0 + 1 < length e
+  pub first-class : (i : ℕ) → i < n → getD ps i 0 + 1 < length c
+  pub second-class : (i : ℕ) → i < n → getD e (getD ps i 0 + 1) 0 < length c
 
 -- the symbol s does not stand in the row w from position b up to e
 abbrev pub Without : List ℕ → ℕ → ℕ → ℕ → Type 0

@@ -1,4 +1,4 @@
-// The searches: the matches of a pattern in a row with its table, and the variables at one match. Each walks along the
+// The searches: the matches of a pattern in a row with its table and its classes, and the variables at one match. Each walks along the
 // pattern, a step at a time, from a position of the row.
 ghost use mathlib.Core.Path.{_≡_};
 ghost use mathlib.Core.Bool.{true, false};
@@ -140,6 +140,7 @@ fn keep_all(places: &[u16; STRETCH], many: usize, out: &mut [u16], before: usize
 fn keep_matches(
     row: &[u16],
     table: &[u16],
+    classes: &[u16],
     pattern: &[u16],
     compared: usize,
     places: &[u16; STRETCH],
@@ -147,7 +148,7 @@ fn keep_matches(
     out: &mut [u16],
     before: usize,
 ) -> usize
-    requires { ⌜ Keepable (programme (now row) (now table)) (now pattern) compared (now places) many × (many ≤ 64) × (length (now places) ≡ 64) × (before + many ≤ length (now out)) ⌝ }
+    requires { ⌜ Keepable (programme (now row) (now table) (now classes)) (now pattern) compared (now places) many × (many ≤ 64) × (length (now places) ≡ 64) × (before + many ≤ length (now out)) ⌝ }
     ensures { λ r. ⌜ Kept (comesThrough (now (row .entry)) (now (table .entry)) (now (pattern .entry))) (take many (now (places .entry))) (now (out .entry)) before r (now (out .exit)) ⌝ }
 {
     let mut count = before;
@@ -162,7 +163,7 @@ fn keep_matches(
             if patterns::same(row[j], s) {
                 j += 1;
             } else {
-                let found = patterns::step(row, table, k, s, j, &mut marks);
+                let found = patterns::step(row, table, classes, s, j, &mut marks);
                 let Stepped::To(next) = found else {
                     continue 'places;
                 };
@@ -187,23 +188,23 @@ fn is_twin(pattern: &[u16]) -> bool
     false
 }
 
-// The same as `keep_matches` for such a pattern: the two subtrees at each place are compared, with no walk.
+// The same as `keep_matches` for such a pattern: the classes of the two subtrees at each place are compared, with no walk.
 fn keep_twins(
-    row: &[u16],
     table: &[u16],
+    classes: &[u16],
     places: &[u16; STRETCH],
     many: usize,
     out: &mut [u16],
     before: usize,
 ) -> usize
-    requires { ⌜ Paired (now row) (now table) (now places) many × (many ≤ 64) × (length (now places) ≡ 64) × (before + many ≤ length (now out)) ⌝ }
-    ensures { λ r. ⌜ Kept (twins (now (row .entry)) (now (table .entry))) (take many (now (places .entry))) (now (out .entry)) before r (now (out .exit)) ⌝ }
+    requires { ⌜ Paired (now table) (now classes) (now places) many × (many ≤ 64) × (length (now places) ≡ 64) × (before + many ≤ length (now out)) ⌝ }
+    ensures { λ r. ⌜ Kept (twins (now (table .entry)) (now (classes .entry))) (take many (now (places .entry))) (now (out .entry)) before r (now (out .exit)) ⌝ }
 {
     let mut count = before;
     for i in 0..many {
         let p = places[i];
         let first = p as usize + 1;
-        if patterns::stands_twice(row, table, first, table[first] as usize) {
+        if classes[first] == classes[table[first] as usize] {
             out[count] = p;
             count += 1;
         }
@@ -216,6 +217,7 @@ fn keep_twins(
 fn list_within(
     row: &[u16],
     table: &[u16],
+    classes: &[u16],
     pattern: &[u16],
     outline: Outline,
     from: usize,
@@ -223,7 +225,7 @@ fn list_within(
     out: &mut [u16],
     before: usize,
 ) -> usize
-    requires { ⌜ Seekable (programme (now row) (now table)) (now pattern) outline × Stretched from to (length (now row)) × (before + (to - from) ≤ length (now out)) ⌝ }
+    requires { ⌜ Seekable (programme (now row) (now table) (now classes)) (now pattern) outline × Stretched from to (length (now row)) × (before + (to - from) ≤ length (now out)) ⌝ }
     ensures { λ r. ⌜ Kept (comesThrough (now (row .entry)) (now (table .entry)) (now (pattern .entry))) (range from (to - from)) (now (out .entry)) before r (now (out .exit)) ⌝ }
 {
     let mut places = [0u16; STRETCH];
@@ -232,11 +234,12 @@ fn list_within(
         return keep_all(&places, many, out, before);
     }
     if is_twin(pattern) {
-        return keep_twins(row, table, &places, many, out, before);
+        return keep_twins(table, classes, &places, many, out, before);
     }
     keep_matches(
         row,
         table,
+        classes,
         pattern,
         outline.compared,
         &places,
@@ -260,9 +263,9 @@ fn is_bare(pattern: &[u16]) -> bool
 }
 
 // The first match.
-pub fn first_match(row: &[u16], table: &[u16], pattern: &[u16]) -> Next
-    requires { ⌜ Searchable (programme (now row) (now table)) (now pattern) ⌝ }
-    ensures { λ r. ⌜ ((a : Alphabet) → Checked a (programme (now (row .entry)) (now (table .entry))) (now (pattern .entry)) → NextIs a (now (row .entry)) (now (pattern .entry)) 0 (length (now (row .entry))) r) ⌝ }
+pub fn first_match(row: &[u16], table: &[u16], classes: &[u16], pattern: &[u16]) -> Next
+    requires { ⌜ Searchable (programme (now row) (now table) (now classes)) (now pattern) ⌝ }
+    ensures { λ r. ⌜ ((a : Alphabet) → Checked a (programme (now (row .entry)) (now (table .entry)) (now (classes .entry))) (now (pattern .entry)) → NextIs a (now (row .entry)) (now (pattern .entry)) 0 (length (now (row .entry))) r) ⌝ }
 {
     if is_bare(pattern) {
         return Next::At(0);
@@ -273,7 +276,17 @@ pub fn first_match(row: &[u16], table: &[u16], pattern: &[u16]) -> Next
     while p < row.len() {
         let from = pass_over(row, pattern[0], p);
         let to = rows::shorter(from + STRETCH, row.len());
-        let many = list_within(row, table, pattern, outline, from, to, &mut found, 0);
+        let many = list_within(
+            row,
+            table,
+            classes,
+            pattern,
+            outline,
+            from,
+            to,
+            &mut found,
+            0,
+        );
         if 0 < many {
             return Next::At(found[0] as usize);
         }
@@ -293,9 +306,15 @@ fn write_positions(n: usize, out: &mut [u16])
 }
 
 // The matches, rising, at the front of `out`, which is as long as the row or longer, and their number.
-pub fn write_matches(row: &[u16], table: &[u16], pattern: &[u16], out: &mut [u16]) -> usize
-    requires { ⌜ Searchable (programme (now row) (now table)) (now pattern) × (length (now row) ≤ length (now out)) ⌝ }
-    ensures { λ r. ⌜ ((a : Alphabet) → Checked a (programme (now (row .entry)) (now (table .entry))) (now (pattern .entry)) → Lists a (now (row .entry)) (now (pattern .entry)) (now (out .entry)) (All r) (now (out .exit))) ⌝ }
+pub fn write_matches(
+    row: &[u16],
+    table: &[u16],
+    classes: &[u16],
+    pattern: &[u16],
+    out: &mut [u16],
+) -> usize
+    requires { ⌜ Searchable (programme (now row) (now table) (now classes)) (now pattern) × (length (now row) ≤ length (now out)) ⌝ }
+    ensures { λ r. ⌜ ((a : Alphabet) → Checked a (programme (now (row .entry)) (now (table .entry)) (now (classes .entry))) (now (pattern .entry)) → Lists a (now (row .entry)) (now (pattern .entry)) (now (out .entry)) (All r) (now (out .exit))) ⌝ }
 {
     if is_bare(pattern) {
         write_positions(row.len(), out);
@@ -307,7 +326,7 @@ pub fn write_matches(row: &[u16], table: &[u16], pattern: &[u16], out: &mut [u16
     while p < row.len() {
         let from = pass_over(row, pattern[0], p);
         let to = rows::shorter(from + STRETCH, row.len());
-        count = list_within(row, table, pattern, outline, from, to, out, count);
+        count = list_within(row, table, classes, pattern, outline, from, to, out, count);
         p = to;
     }
     count
@@ -324,14 +343,15 @@ pub enum Listing {
 fn list_by(
     row: &[u16],
     table: &[u16],
+    classes: &[u16],
     pattern: &[u16],
     out: &mut [u16],
     room: &mut [u16],
 ) -> Listing
-    requires { ⌜ Searchable (programme (now row) (now table)) (now pattern) × (length (now row) ≤ length (now room)) ⌝ }
-    ensures { λ r. ⌜ ((a : Alphabet) → Checked a (programme (now (row .entry)) (now (table .entry))) (now (pattern .entry)) → Lists a (now (row .entry)) (now (pattern .entry)) (now (out .entry)) r (now (out .exit))) ⌝ }
+    requires { ⌜ Searchable (programme (now row) (now table) (now classes)) (now pattern) × (length (now row) ≤ length (now room)) ⌝ }
+    ensures { λ r. ⌜ ((a : Alphabet) → Checked a (programme (now (row .entry)) (now (table .entry)) (now (classes .entry))) (now (pattern .entry)) → Lists a (now (row .entry)) (now (pattern .entry)) (now (out .entry)) r (now (out .exit))) ⌝ }
 {
-    let count = write_matches(row, table, pattern, room);
+    let count = write_matches(row, table, classes, pattern, room);
     if out.len() < count {
         return Listing::Needs(count);
     }
@@ -340,24 +360,30 @@ fn list_by(
 }
 
 // The same. Only a buffer shorter than the row can be too short, and only there they are gathered first.
-pub fn list_matches(row: &[u16], table: &[u16], pattern: &[u16], out: &mut [u16]) -> Listing
-    requires { ⌜ Searchable (programme (now row) (now table)) (now pattern) ⌝ }
-    ensures { λ r. ⌜ ((a : Alphabet) → Checked a (programme (now (row .entry)) (now (table .entry))) (now (pattern .entry)) → Lists a (now (row .entry)) (now (pattern .entry)) (now (out .entry)) r (now (out .exit))) ⌝ }
+pub fn list_matches(
+    row: &[u16],
+    table: &[u16],
+    classes: &[u16],
+    pattern: &[u16],
+    out: &mut [u16],
+) -> Listing
+    requires { ⌜ Searchable (programme (now row) (now table) (now classes)) (now pattern) ⌝ }
+    ensures { λ r. ⌜ ((a : Alphabet) → Checked a (programme (now (row .entry)) (now (table .entry)) (now (classes .entry))) (now (pattern .entry)) → Lists a (now (row .entry)) (now (pattern .entry)) (now (out .entry)) r (now (out .exit))) ⌝ }
 {
     if row.len() <= out.len() {
-        let count = write_matches(row, table, pattern, out);
+        let count = write_matches(row, table, classes, pattern, out);
         return Listing::All(count);
     }
     if row.len() <= tables::SHORT {
         let mut room = tables::short_room();
-        return list_by(row, table, pattern, out, &mut room);
+        return list_by(row, table, classes, pattern, out, &mut room);
     }
     if row.len() <= tables::MIDDLE {
         let mut room = tables::middle_room();
-        return list_by(row, table, pattern, out, &mut room);
+        return list_by(row, table, classes, pattern, out, &mut room);
     }
     let mut room = tables::long_room();
-    list_by(row, table, pattern, out, &mut room)
+    list_by(row, table, classes, pattern, out, &mut room)
 }
 
 // Begin and end of the subtree that a mark stands for.
@@ -395,12 +421,13 @@ fn write_spans(table: &[u16], marks: [u16; patterns::MARKS], out: &mut [u16])
 pub fn variables_at(
     row: &[u16],
     table: &[u16],
+    classes: &[u16],
     pattern: &[u16],
     p: usize,
     out: &mut [u16],
 ) -> Walked
-    requires { ⌜ Searchable (programme (now row) (now table)) (now pattern) × (p < length (now row)) × (variables + variables ≤ length (now out)) ⌝ }
-    ensures { λ r. ⌜ ((a : Alphabet) → Checked a (programme (now (row .entry)) (now (table .entry))) (now (pattern .entry)) → VariablesAt a (now (row .entry)) (now (pattern .entry)) p (now (out .entry)) r (now (out .exit))) ⌝ }
+    requires { ⌜ Searchable (programme (now row) (now table) (now classes)) (now pattern) × (p < length (now row)) × (variables + variables ≤ length (now out)) ⌝ }
+    ensures { λ r. ⌜ ((a : Alphabet) → Checked a (programme (now (row .entry)) (now (table .entry)) (now (classes .entry))) (now (pattern .entry)) → VariablesAt a (now (row .entry)) (now (pattern .entry)) p (now (out .entry)) r (now (out .exit))) ⌝ }
 {
     let mut marks = [0u16; patterns::MARKS];
     let mut j = p;
@@ -409,10 +436,10 @@ pub fn variables_at(
         if patterns::same(row[j], s) {
             j += 1;
         } else {
-            let found = patterns::step(row, table, k, s, j, &mut marks);
+            let found = patterns::step(row, table, classes, s, j, &mut marks);
             match found {
                 Stepped::To(next) => j = next,
-                Stepped::Miss(place, x) => return Walked::Fails(place, x),
+                Stepped::Miss => return patterns::miss_at(row, table, k, s, j, &marks),
             }
         }
     }

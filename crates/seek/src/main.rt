@@ -36,13 +36,20 @@ fn write_out(out: &[u8], n: usize) -> bool
 }
 
 // The text of a response goes out, page by page, as long as each page goes out whole.
-fn write_text(response: Response, numbers: &[u16], table: &[u16], positions: &[u16], out: &mut [u8])
-    requires { ⌜ Printable response (now numbers) (now table) (now positions) × (lineMost ≤ length (now out)) ⌝ }
+fn write_text(
+    response: Response,
+    numbers: &[u16],
+    table: &[u16],
+    classes: &[u16],
+    positions: &[u16],
+    out: &mut [u8],
+)
+    requires { ⌜ Printable response (now numbers) (now table) (now classes) (now positions) × (lineMost ≤ length (now out)) ⌝ }
 {
     let count = seek_text::line_count(response);
     let mut first = 0;
     while first < count {
-        let page = seek_text::print_page(response, numbers, table, positions, first, out);
+        let page = seek_text::print_page(response, numbers, table, classes, positions, first, out);
         if !write_out(out, page.bytes) {
             return;
         }
@@ -56,9 +63,16 @@ fn respond(input: &[u8], out: &mut [u8])
 {
     let mut numbers = numbers_room();
     let mut table = tables::long_room();
+    let mut classes = tables::long_room();
     let mut positions = tables::long_room();
-    let response = seek_text::answer_input(input, &mut numbers, &mut table, &mut positions);
-    write_text(response, &numbers, &table, &positions, out);
+    let response = seek_text::answer_input(
+        input,
+        &mut numbers,
+        &mut table,
+        &mut classes,
+        &mut positions,
+    );
+    write_text(response, &numbers, &table, &classes, &positions, out);
 }
 
 fn main() {

@@ -61,9 +61,9 @@ module _ (b y : List ℕ) (a e p : ℕ) (n : List ℕ) (l : ListsRead b y a e p 
   pub answer-refused : (r : Refusal) → seekCheck (take a n) (take (e - a) (drop a n)) (take (p - e) (drop e n)) ≡ check.Refused r → Prints b (joined (refusalText r ∷ []))
   answer-refused r h = one-line-printed b r (lists-refused (take a n) (take (e - a) (drop a n)) (take (p - e) (drop e n)) (l .short) said h)
 
-  pub answer-found : (k : ℕ) (t z : List ℕ) → MatchesFound (take a n) (take (e - a) (drop a n)) (take (p - e) (drop e n)) k t z → Answered b (Matches a e p k) n z × Printable (Matches a e p k) n t z
+  pub answer-found : (k : ℕ) (t c z : List ℕ) → MatchesFound (take a n) (take (e - a) (drop a n)) (take (p - e) (drop e n)) k t c z → Answered b (Matches a e p k) n z × Printable (Matches a e p k) n t c z
   unfolding joined
-  answer-found k t z m =
+  answer-found k t c z m =
       let s = places in
       let w = take (e - a) (drop a n) in
       let q = take (p - e) (drop e n) in

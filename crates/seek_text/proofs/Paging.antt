@@ -44,7 +44,7 @@ getD-map f [] i h = absurd (omega arith)
 getD-map f (p ∷ ps) zero h = refl
 getD-map f (p ∷ ps) (suc i) h = getD-map f ps i (omega arith)
 
-module _ (a e p k : ℕ) (n t y : List ℕ) (h : Holds a e p k n t y) where
+module _ (a e p k : ℕ) (n t c y : List ℕ) (h : Holds a e p k n t c y) where
   -- the count and the matches
   pub lines-many : length (linesOf (Matches a e p k) n y) ≡ k + 1
   lines-many = ap suc (length-map _ (take k y) ∙ length-take-le k y (h .count)) ∙ sym (add-one k)

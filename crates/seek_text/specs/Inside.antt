@@ -41,37 +41,37 @@ abbrev pub InputRead : List ℕ → List ℕ → Input → List ℕ → Type 0
 InputRead b y (Lists a r p) y′ = ListsRead b y a r p y′
 InputRead b y (Refused f) y′ = InputRefused b f
 
--- an accepted row with its table t and an accepted pattern, whose matches are the positions ps
-pub record Ready (A w t q ps : List ℕ) : Type 0 where
-  pub checked : Checked (alphabetOf A) (programme w t) q
+-- an accepted row with its table t and its classes c, and an accepted pattern, whose matches are the positions ps
+pub record Ready (A w t c q ps : List ℕ) : Type 0 where
+  pub checked : Checked (alphabetOf A) (programme w t c) q
   pub listed : Listed (alphabetOf A) w q (length w) ps
 
--- k matches were found, which stand at the front of the buffer y; t begins with the row's table
-pub record MatchesFound (A w q : List ℕ) (k : ℕ) (t y : List ℕ) : Type 0 where
+-- k matches were found, which stand at the front of the buffer y; t begins with the row's table and c with its classes
+pub record MatchesFound (A w q : List ℕ) (k : ℕ) (t c y : List ℕ) : Type 0 where
   pub fine : seekCheck A w q ≡ check.Fine
   pub count : k ≤ length y
   pub few : k ≤ rowMost
-  pub ready : Ready A w t q (take k y)
+  pub ready : Ready A w t c q (take k y)
 
--- what a search of the row w answers, and what it leaves in the table t and the buffer y
-abbrev pub Searched : List ℕ → List ℕ → List ℕ → Found → List ℕ → List ℕ → Type 0
-Searched A w q (found.Matches k) t y = MatchesFound A w q k t y
-Searched A w q (found.Refused r) t y = seekCheck A w q ≡ check.Refused r
+-- what a search of the row w answers, and what it leaves in the table t, the classes c and the buffer y
+abbrev pub Searched : List ℕ → List ℕ → List ℕ → Found → List ℕ → List ℕ → List ℕ → Type 0
+Searched A w q (found.Matches k) t c y = MatchesFound A w q k t c y
+Searched A w q (found.Refused r) t c y = seekCheck A w q ≡ check.Refused r
 
--- the buffers hold what the lines of a response are printed from: the lists, the row's table t, and the matches
-pub record Holds (a e p k : ℕ) (n t y : List ℕ) : Type 0 where
+-- the buffers hold what the lines of a response are printed from: the lists, the row's table t and its classes c, and the matches
+pub record Holds (a e p k : ℕ) (n t c y : List ℕ) : Type 0 where
   pub row-after : a ≤ e
   pub pattern-after : e ≤ p
   pub within : p ≤ length n
   pub count : k ≤ length y
   pub few : k ≤ rowMost
-  pub ready : Ready (take a n) (take (e - a) (drop a n)) t (take (p - e) (drop e n)) (take k y)
+  pub ready : Ready (take a n) (take (e - a) (drop a n)) t c (take (p - e) (drop e n)) (take k y)
 
-abbrev pub Printable : Response → List ℕ → List ℕ → List ℕ → Type 0
-Printable (response.Matches a e p k) n t y = Holds a e p k n t y
-Printable (response.Refused r) n t y = Unit {0}
+abbrev pub Printable : Response → List ℕ → List ℕ → List ℕ → List ℕ → Type 0
+Printable (response.Matches a e p k) n t c y = Holds a e p k n t c y
+Printable (response.Refused r) n t c y = Unit {0}
 
 -- the line of a match at p was printed into the buffer b from place `at` on; r is the place behind
-pub record LinePrinted (w t q : List ℕ) (p : ℕ) (b : List ℕ) (at r : ℕ) (b′ : List ℕ) : Type 0 where
+pub record LinePrinted (w t c q : List ℕ) (p : ℕ) (b : List ℕ) (at r : ℕ) (b′ : List ℕ) : Type 0 where
   pub within : r ≤ length b
-  pub text : (a : Alphabet) → Checked a (programme w t) q → MatchesAt a w q p → Printed b at (lineText (a .arities) w q p) r b′
+  pub text : (a : Alphabet) → Checked a (programme w t c) q → MatchesAt a w q p → Printed b at (lineText (a .arities) w q p) r b′

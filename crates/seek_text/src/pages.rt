@@ -19,24 +19,25 @@ use seek_print::put_refusal;
 fn put_found(
     row: &[u16],
     table: &[u16],
+    classes: &[u16],
     pattern: &[u16],
     p: u16,
     out: &mut [u8],
     at: usize,
 ) -> usize
-    requires { ⌜ Searchable (programme (now row) (now table)) (now pattern) × (p < length (now row)) × (at + lineMost ≤ length (now out)) ⌝ }
-    ensures { λ r. ⌜ LinePrinted (now (row .entry)) (now (table .entry)) (now (pattern .entry)) p (now (out .entry)) at r (now (out .exit)) ⌝ }
+    requires { ⌜ Searchable (programme (now row) (now table) (now classes)) (now pattern) × (p < length (now row)) × (at + lineMost ≤ length (now out)) ⌝ }
+    ensures { λ r. ⌜ LinePrinted (now (row .entry)) (now (table .entry)) (now (classes .entry)) (now (pattern .entry)) p (now (out .entry)) at r (now (out .exit)) ⌝ }
 {
     let position = p as usize;
     let mut spans = [0u16; rows::SPAN_PLACES];
-    searches::variables_at(row, table, pattern, position, &mut spans);
+    searches::variables_at(row, table, classes, pattern, position, &mut spans);
     put_match(out, at, p, table[position], &spans)
 }
 
 // How many lines a response has: the count's and one for each match; or the refusal's.
 pub fn line_count(response: Response) -> usize
-    requires { ⌜ ((n t y : List ℕ) × Printable response n t y) ⌝ }
-    ensures { λ r. ⌜ ((n t y : List ℕ) → Printable response n t y → r ≡ length (linesOf response n y)) ⌝ }
+    requires { ⌜ ((n t c y : List ℕ) × Printable response n t c y) ⌝ }
+    ensures { λ r. ⌜ ((n t c y : List ℕ) → Printable response n t c y → r ≡ length (linesOf response n y)) ⌝ }
 {
     match response {
         Response::Refused(_) => 1,
@@ -51,13 +52,14 @@ fn put_numbered(
     e: usize,
     p: usize,
     table: &[u16],
+    classes: &[u16],
     positions: &[u16],
     count: usize,
     i: usize,
     out: &mut [u8],
     at: usize,
 ) -> usize
-    requires { ⌜ Holds a e p count (now numbers) (now table) (now positions) × (i ≤ count) × (at + lineMost ≤ length (now out)) ⌝ }
+    requires { ⌜ Holds a e p count (now numbers) (now table) (now classes) (now positions) × (i ≤ count) × (at + lineMost ≤ length (now out)) ⌝ }
     ensures { λ r. ⌜ Printed (now (out .entry)) at (getD (linesOf (Response.Matches a e p count) (now (numbers .entry)) (now (positions .entry))) i []) r (now (out .exit)) × (r ≤ length (now (out .entry))) ⌝ }
 {
     if i == 0 {
@@ -66,6 +68,7 @@ fn put_numbered(
     put_found(
         &numbers[a..e],
         table,
+        classes,
         &numbers[e..p],
         positions[i - 1],
         out,
@@ -78,18 +81,31 @@ fn put_line(
     response: Response,
     numbers: &[u16],
     table: &[u16],
+    classes: &[u16],
     positions: &[u16],
     i: usize,
     out: &mut [u8],
     at: usize,
 ) -> usize
-    requires { ⌜ Printable response (now numbers) (now table) (now positions) × (i < length (linesOf response (now numbers) (now positions))) × (at + lineMost ≤ length (now out)) ⌝ }
+    requires { ⌜ Printable response (now numbers) (now table) (now classes) (now positions) × (i < length (linesOf response (now numbers) (now positions))) × (at + lineMost ≤ length (now out)) ⌝ }
     ensures { λ r. ⌜ Printed (now (out .entry)) at (getD (linesOf response (now (numbers .entry)) (now (positions .entry))) i []) r (now (out .exit)) × (r ≤ length (now (out .entry))) ⌝ }
 {
     match response {
         Response::Refused(refusal) => put_refusal(out, at, refusal),
         Response::Matches(a, e, p, count) => {
-            put_numbered(numbers, a, e, p, table, positions, count, i, out, at)
+            put_numbered(
+                numbers,
+                a,
+                e,
+                p,
+                table,
+                classes,
+                positions,
+                count,
+                i,
+                out,
+                at,
+            )
         }
     }
 }
@@ -105,11 +121,12 @@ pub fn print_page(
     response: Response,
     numbers: &[u16],
     table: &[u16],
+    classes: &[u16],
     positions: &[u16],
     first: usize,
     out: &mut [u8],
 ) -> Page
-    requires { ⌜ Printable response (now numbers) (now table) (now positions) × (first ≤ length (linesOf response (now numbers) (now positions))) × (lineMost ≤ length (now out)) ⌝ }
+    requires { ⌜ Printable response (now numbers) (now table) (now classes) (now positions) × (first ≤ length (linesOf response (now numbers) (now positions))) × (lineMost ≤ length (now out)) ⌝ }
     ensures { λ r. ⌜ PagePrinted (linesOf response (now (numbers .entry)) (now (positions .entry))) first r (now (out .exit)) ⌝ }
 {
     let count = line_count(response);
@@ -119,7 +136,7 @@ pub fn print_page(
         if out.len() - at < LINE_MOST {
             break;
         }
-        at = put_line(response, numbers, table, positions, i, out, at);
+        at = put_line(response, numbers, table, classes, positions, i, out, at);
         i += 1;
     }
     Page { next: i, bytes: at }

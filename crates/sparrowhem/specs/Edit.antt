@@ -3,9 +3,10 @@ use Prim.Native.Nat.{ℕ}
 use mathlib.Core.Path.{_≡_}
 use mathlib.Core.List.{List}
 use lib.IntN.{pos, _-ℤ_}
-use Rattle.rows.specs.Limits.{freedSymbol, freedEntry}
+use Rattle.rows.specs.Limits.{freedSymbol, freedEntry, freedClass}
 use Rattle.rows.specs.Programme.{Alphabet, Programme, front}
 use Rattle.rows.specs.Tree.{Forest, size, prefix, ends}
+use Rattle.rows.specs.Classes.{classesOf}
 use Rattle.rows.specs.Buffers.{after}
 use Rattle.rows.specs.declared.Check.{Check}
 use Rattle.rows.specs.declared.Check.the-variants.{Fine, Refused}
@@ -19,10 +20,14 @@ use Rattle.sparrowhem.specs.declared.edit.Replaced.the-variants.{Done, R
 abbrev pub newTree : Alphabet → Programme → ℕ → List ℕ → ℕ → Forest
 newTree a P n v p = changed (a .arities) (front n P .row) p v
 
--- the row and the table of the tree f; the places that are freed are marked, and what stood behind them stays
+-- the row, the table and the classes of the tree f; the places that are freed are marked, and what stood behind them stays
 abbrev pub holding : Programme → ℕ → Forest → Programme
 holding P n f =
-    record { row = renewed (P .row) n freedSymbol (prefix f); table = renewed (P .table) n freedEntry (ends 0 f) }
+    record {
+      row = renewed (P .row) n freedSymbol (prefix f);
+      table = renewed (P .table) n freedEntry (ends 0 f);
+      classes = renewed (P .classes) n freedClass (classesOf f);
+    }
 
 -- the new length m and how much it is over the old one; or the refusal
 abbrev pub answered : Check → ℕ → ℕ → Replaced

@@ -14,21 +14,33 @@ pub enum Placed {
 }
 
 // The companion of `subtree`: begin and end of the subtree at the position, or the refusal.
-pub fn subtree_answer(arities: &[u16], row: &[u16], table: &[u16], position: usize) -> Placed
-    ensures { λ r. ⌜ r ≡ subtreeAnswer (alphabetOf (now (arities .entry))) (programme (now (row .entry)) (now (table .entry))) position ⌝ }
+pub fn subtree_answer(
+    arities: &[u16],
+    row: &[u16],
+    table: &[u16],
+    classes: &[u16],
+    position: usize,
+) -> Placed
+    ensures { λ r. ⌜ r ≡ subtreeAnswer (alphabetOf (now (arities .entry))) (programme (now (row .entry)) (now (table .entry)) (now (classes .entry))) position ⌝ }
 {
-    match checks::check_subtree(arities, row, table, position) {
+    match checks::check_subtree(arities, row, table, classes, position) {
         Check::Refused(r) => Placed::Refused(r),
         Check::Fine => Placed::Span(position, table[position] as usize),
     }
 }
 
 // The subtree at the position, as a part of the row; empty exactly for a refusal.
-pub fn subtree<'a>(arities: &[u16], row: &'a [u16], table: &[u16], position: usize) -> &'a [u16]
-    ensures { λ r. ⌜ now r ≡ subtreePart (alphabetOf (now (arities .entry))) (programme (now (row .entry)) (now (table .entry))) position ⌝ }
-    ensures { λ r. ⌜ SubtreeLies (subtreeAnswer (alphabetOf (now (arities .entry))) (programme (now (row .entry)) (now (table .entry))) position) (ptr (row .entry)) (ptr r) ⌝ }
+pub fn subtree<'a>(
+    arities: &[u16],
+    row: &'a [u16],
+    table: &[u16],
+    classes: &[u16],
+    position: usize,
+) -> &'a [u16]
+    ensures { λ r. ⌜ now r ≡ subtreePart (alphabetOf (now (arities .entry))) (programme (now (row .entry)) (now (table .entry)) (now (classes .entry))) position ⌝ }
+    ensures { λ r. ⌜ SubtreeLies (subtreeAnswer (alphabetOf (now (arities .entry))) (programme (now (row .entry)) (now (table .entry)) (now (classes .entry))) position) (ptr (row .entry)) (ptr r) ⌝ }
 {
-    match subtree_answer(arities, row, table, position) {
+    match subtree_answer(arities, row, table, classes, position) {
         Placed::Refused(_) => &row[0..0],
         Placed::Span(begin, end) => &row[begin..end],
     }
@@ -49,26 +61,35 @@ pub fn newer_answer(
     arities: &[u16],
     corrected: &[u16],
     corrected_table: &[u16],
+    corrected_classes: &[u16],
     record: &[u16],
     record_table: &[u16],
+    record_classes: &[u16],
     pattern: &[u16],
 ) -> Newest
-    ensures { λ r. ⌜ NewestSays (alphabetOf (now (arities .entry))) (programme (now (corrected .entry)) (now («corrected_table» .entry))) (programme (now («record» .entry)) (now («record_table» .entry))) (now (pattern .entry)) r ⌝ }
+    ensures { λ r. ⌜ NewestSays (alphabetOf (now (arities .entry))) (programme (now (corrected .entry)) (now («corrected_table» .entry)) (now («corrected_classes» .entry))) (programme (now («record» .entry)) (now («record_table» .entry)) (now («record_classes» .entry))) (now (pattern .entry)) r ⌝ }
 {
     match checks::check_newer(
         arities,
         corrected,
         corrected_table,
+        corrected_classes,
         record,
         record_table,
+        record_classes,
         pattern,
     ) {
         Check::Refused(r) => Newest::Refused(r),
         Check::Fine => {
-            if let Next::At(p) = searches::first_match(corrected, corrected_table, pattern) {
+            if let Next::At(p) = searches::first_match(
+                corrected,
+                corrected_table,
+                corrected_classes,
+                pattern,
+            ) {
                 return Newest::Corrected(p, corrected_table[p] as usize);
             }
-            match searches::first_match(record, record_table, pattern) {
+            match searches::first_match(record, record_table, record_classes, pattern) {
                 Next::At(p) => Newest::OnRecord(p, record_table[p] as usize),
                 Next::Nowhere => Newest::Nowhere,
             }
@@ -82,19 +103,23 @@ pub fn newer<'a>(
     arities: &[u16],
     corrected: &'a [u16],
     corrected_table: &[u16],
+    corrected_classes: &[u16],
     record: &'a [u16],
     record_table: &[u16],
+    record_classes: &[u16],
     pattern: &[u16],
 ) -> &'a [u16]
-    ensures { λ r. ⌜ NewerPart (alphabetOf (now (arities .entry))) (programme (now (corrected .entry)) (now («corrected_table» .entry))) (programme (now («record» .entry)) (now («record_table» .entry))) (now (pattern .entry)) (now r) ⌝ }
-    ensures { λ r. ⌜ NewerLies (alphabetOf (now (arities .entry))) (programme (now (corrected .entry)) (now («corrected_table» .entry))) (programme (now («record» .entry)) (now («record_table» .entry))) (now (pattern .entry)) (ptr (corrected .entry)) (ptr («record» .entry)) (ptr r) ⌝ }
+    ensures { λ r. ⌜ NewerPart (alphabetOf (now (arities .entry))) (programme (now (corrected .entry)) (now («corrected_table» .entry)) (now («corrected_classes» .entry))) (programme (now («record» .entry)) (now («record_table» .entry)) (now («record_classes» .entry))) (now (pattern .entry)) (now r) ⌝ }
+    ensures { λ r. ⌜ NewerLies (alphabetOf (now (arities .entry))) (programme (now (corrected .entry)) (now («corrected_table» .entry)) (now («corrected_classes» .entry))) (programme (now («record» .entry)) (now («record_table» .entry)) (now («record_classes» .entry))) (now (pattern .entry)) (ptr (corrected .entry)) (ptr («record» .entry)) (ptr r) ⌝ }
 {
     match newer_answer(
         arities,
         corrected,
         corrected_table,
+        corrected_classes,
         record,
         record_table,
+        record_classes,
         pattern,
     ) {
         Newest::Corrected(begin, end) => &corrected[begin..end],

@@ -1,4 +1,4 @@
-// Patterns over a row with its table.
+// Patterns over a row with its table and its classes.
 ghost use Rattle.rows.specs.Programme.{alphabetOf, programme};
 ghost use Rattle.sparrowhem.specs.Search.{Finds, Binds};
 use patterns::Walked;
@@ -21,13 +21,20 @@ pub enum Bound {
 
 // Find: the number of the matches, which stand at the front of `out`, rising, later places stay; or the first refusal,
 // which writes nothing.
-pub fn find(arities: &[u16], row: &[u16], table: &[u16], pattern: &[u16], out: &mut [u16]) -> Found
-    ensures { λ r. ⌜ Finds (alphabetOf (now (arities .entry))) (programme (now (row .entry)) (now (table .entry))) (now (pattern .entry)) (now (out .entry)) r (now (out .exit)) ⌝ }
+pub fn find(
+    arities: &[u16],
+    row: &[u16],
+    table: &[u16],
+    classes: &[u16],
+    pattern: &[u16],
+    out: &mut [u16],
+) -> Found
+    ensures { λ r. ⌜ Finds (alphabetOf (now (arities .entry))) (programme (now (row .entry)) (now (table .entry)) (now (classes .entry))) (now (pattern .entry)) (now (out .entry)) r (now (out .exit)) ⌝ }
 {
-    match checks::check_search(arities, row, table, pattern) {
+    match checks::check_search(arities, row, table, classes, pattern) {
         Check::Refused(r) => Found::Refused(r),
         Check::Fine => {
-            let listed = searches::list_matches(row, table, pattern, out);
+            let listed = searches::list_matches(row, table, classes, pattern, out);
             match listed {
                 Listing::All(count) => Found::Matches(count),
                 Listing::Needs(count) => Found::Refused(Refusal::OutputShort(count)),
@@ -42,16 +49,17 @@ pub fn variables(
     arities: &[u16],
     row: &[u16],
     table: &[u16],
+    classes: &[u16],
     pattern: &[u16],
     position: usize,
     out: &mut [u16],
 ) -> Bound
-    ensures { λ r. ⌜ Binds (alphabetOf (now (arities .entry))) (programme (now (row .entry)) (now (table .entry))) (now (pattern .entry)) position (now (out .entry)) r (now (out .exit)) ⌝ }
+    ensures { λ r. ⌜ Binds (alphabetOf (now (arities .entry))) (programme (now (row .entry)) (now (table .entry)) (now (classes .entry))) (now (pattern .entry)) position (now (out .entry)) r (now (out .exit)) ⌝ }
 {
-    match checks::check_variables(arities, row, table, pattern, position, out.len()) {
+    match checks::check_variables(arities, row, table, classes, pattern, position, out.len()) {
         Check::Refused(r) => Bound::Refused(r),
         Check::Fine => {
-            let walked = searches::variables_at(row, table, pattern, position, out);
+            let walked = searches::variables_at(row, table, classes, pattern, position, out);
             match walked {
                 Walked::Through => Bound::Matched,
                 Walked::Fails(_, _) => Bound::Unmatched,

@@ -1,5 +1,4 @@
 pub mod Standing
 pub mod Fill
-pub mod Differ
 pub mod Given
 pub mod Pass

@@ -39,7 +39,7 @@ passed-none A w t l =
     let none : (0 ≡ count (behind A w (length w))) × Standing l (length w) (behind A w (length w)) = standing-none A w l (length w) in
     record {
       stands = record { ranked = subst (λ (x : List ℕ). Ranked A (allowed Symbols A) (parse A x)) nothing tt; counted = none .0; standing = none .1 };
-      told = λ whose. ap (λ (x : List ℕ). differs whose (length w) (ends (length w) (parse A x)) (drop (length w) t)) (drop-length w) ∙ simp (le-ltb (length w) (length w) (omega arith));
+      told = λ whose. ap (λ (x : List ℕ). differs (λ k. whose (Stale k)) (length w) (ends (length w) (parse A x)) (drop (length w) t)) (drop-length w) ∙ simp (le-ltb (length w) (length w) (omega arith));
     }
 
 -- a number that is no symbol
@@ -90,8 +90,8 @@ passed-more A w t l m trees stale p more e sized below c s =
     record {
       stands = s .0;
       told = λ whose.
-          ap₂ (differs whose p) (ends-behind A w p p below) (drop-more t p (omega (arith, sized .fits)))
-          ∙ chosen whose (eqb (getD t p 0) (p + 1 + size (first (getD A (getD w p 0) 0) g))) (length w) stale p (differs whose (p + 1) (ends (p + 1) g) (drop (p + 1) t)) below (c .told whose)
+          ap₂ (differs (λ k. whose (Stale k)) p) (ends-behind A w p p below) (drop-more t p (omega (arith, sized .fits)))
+          ∙ chosen whose (eqb (getD t p 0) (p + 1 + size (first (getD A (getD w p 0) 0) g))) (length w) stale p (differs (λ k. whose (Stale k)) (p + 1) (ends (p + 1) g) (drop (p + 1) t)) below (c .told whose)
           ∙ ap (λ (n : ℕ). staleFrom whose (length w) (pick (eqb (getD t p 0) n) stale p)) (sym (s .1));
     }
 

@@ -47,7 +47,7 @@ Places A w p l (Beside trees e) = Stands A w l trees p × (e ≡ p + 1 + size (f
 -- and of the entries from place p on the first that is not the row's stands at `stale`
 pub record Passed (A w t l : List ℕ) (trees stale p : ℕ) : Type 0 where
   pub stands : Stands A w l trees p
-  pub told : (whose : Kept → Refusal) → differs whose p (ends p (behind A w p)) (drop p t) ≡ staleFrom whose (length w) stale
+  pub told : (whose : Kept → Refusal) → differs (λ k. whose (Stale k)) p (ends p (behind A w p)) (drop p t) ≡ staleFrom whose (length w) stale
 
 -- what the symbol at p and its entry add to that: the row is no tree's; or row and table are read from p on
 abbrev pub Compares : List ℕ → List ℕ → List ℕ → ℕ → List ℕ → Compared → Type 0

@@ -9,6 +9,8 @@ use Rattle.rows.specs.Limits.{rowMost}
 use Rattle.rows.specs.Row.{pick}
 use Rattle.rows.specs.Reading.{Accepted}
 use Rattle.rows.specs.Parse.{table}
+use Rattle.rows.specs.Classes.{classes}
+use Rattle.rows.specs.Programme.{Alphabet, Programme}
 use Rattle.rows.specs.Refusals.{fresh}
 use Rattle.rows.specs.declared.Kept.{Kept}
 use Rattle.rows.specs.declared.Kept.the-variants.{Stale}
@@ -37,11 +39,21 @@ pub record Sized (w t : List ℕ) : Type 0 where
   pub most : length w ≤ rowMost
   pub fits : length w ≤ length t
 
--- an accepted row with its table: what refusals 1 to 10 leave
+-- an accepted row with its table
 pub record Right (A w t : List ℕ) : Type 0 where
   pub accepted : Accepted A w
   pub sized : Sized w t
   pub right : take (length w) t ≡ table A w
+
+-- the list c begins with the classes of the row w
+pub record Classed (A w c : List ℕ) : Type 0 where
+  pub fits : length w ≤ length c
+  pub right : take (length w) c ≡ classes A w
+
+-- a programme in order: an accepted row with its table and its classes, which is what refusals 1 to 10 and 62 leave
+pub record InOrder (a : Alphabet) (P : Programme) : Type 0 where
+  pub row : Right (a .arities) (P .row) (P .table)
+  pub classed : Classed (a .arities) (P .row) (P .classes)
 
 -- an accepted row, and a table with room for its ends from place `at` on
 pub record Fillable (A w t : List ℕ) (at : ℕ) : Type 0 where

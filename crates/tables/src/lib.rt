@@ -10,8 +10,7 @@ ghost use Rattle.rows.specs.Parse.{parse};
 ghost use Rattle.rows.specs.Row.{pick};
 ghost use Rattle.rows.specs.Buffers.{written};
 ghost use Rattle.rows.specs.Limits.{rowMost};
-ghost use Rattle.rows.specs.Programme.{alphabetOf, programme};
-ghost use Rattle.rows.specs.Refusals.{_then_, keeps, symbols, fresh, kept};
+ghost use Rattle.rows.specs.Refusals.{_then_, keeps, symbols, fresh};
 ghost use Rattle.rows.specs.declared.Kept.{Kept};
 ghost use Rattle.rows.specs.declared.Refusal.{Refusal};
 ghost use Rattle.tables.specs.Given.{tiny, short, fair, middle, Sized, Fillable, Sees, Answers};
@@ -376,22 +375,10 @@ pub fn check_beside(arities: &[u16], row: &[u16], table: &[u16], standing: &mut 
 }
 
 // The same. A shorter row takes less room.
-fn check_ends(arities: &[u16], row: &[u16], table: &[u16]) -> Keeping
+pub fn check_ends(arities: &[u16], row: &[u16], table: &[u16]) -> Keeping
     requires { ⌜ Sized (now row) (now table) ⌝ }
     ensures { λ r. ⌜ ((whose : Kept → Refusal) → keeps whose r ≡ (symbols whose (now (arities .entry)) (now (row .entry)) then fresh whose (now (arities .entry)) (now (row .entry)) (now (table .entry)))) ⌝ }
 {
     let seen = compare_ends(arities, row, table);
     refuse_seen(arities, row, seen)
-}
-
-// Refusals 4 to 10: a row, the first n places of its buffer, with what stands beside it.
-pub fn check_kept(arities: &[u16], row: &[u16], table: &[u16], n: usize) -> Keeping
-    ensures { λ r. ⌜ ((whose : Kept → Refusal) → keeps whose r ≡ kept whose (alphabetOf (now (arities .entry))) (programme (now (row .entry)) (now (table .entry))) n) ⌝ }
-{
-    let room = rows::shorter(row.len(), table.len());
-    let sizes = rows::check_sizes(n, room);
-    let Keeping::Sound = sizes else {
-        return sizes;
-    };
-    check_ends(arities, &row[..n], table)
 }

@@ -6,7 +6,7 @@ use native.Mathlib.Omega.{arith}
 use Rattle.rows.specs.declared.Fault.{Fault}
 use Rattle.rows.specs.declared.Fault.the-variants.{Empty, Long, Stray, Early, Extra}
 use Rattle.rows.specs.declared.Kept.{Kept}
-use Rattle.rows.specs.declared.Kept.the-variants.{Misread, Short, Stale}
+use Rattle.rows.specs.declared.Kept.the-variants.{Misread, Short, Stale, Misclassed}
 use Rattle.refusal_numbers.specs.Numbers.{rowNumber, keptNumber, onRecordNumber}
 use borrow.Author.Needs.{needs}
 use Rattle.refusal_numbers.proofs.on_record_number.Statement.{statement}
@@ -19,10 +19,11 @@ row-small (Stray p) = omega arith
 row-small (Early n) = omega arith
 row-small (Extra p) = omega arith
 
-kept-small : (k : Kept) → keptNumber k ≤ 10
-kept-small (Misread f) = row-small f
+kept-small : (k : Kept) → keptNumber k ≤ 62
+kept-small (Misread f) = omega (arith, row-small f)
 kept-small (Short n) = omega arith
 kept-small (Stale p) = omega arith
+kept-small (Misclassed p) = omega arith
 
 kept-number-requires : tie.Need-kept-number-requires
 kept-number-requires c κs = search needs

@@ -18,17 +18,17 @@ use Rattle.searches.proofs.first_match.Statement.{statement}
 use Rattle.searches.proofs.first_match.Tie as tie
 
 abbrev Inv-loop : tie.InvT-loop
-Inv-loop row table pattern outline found₀ p₀ found p = (p ≤ length row) × (length found ≡ 64) × Clear (comesThrough row table pattern) p
+Inv-loop row table classes pattern outline found₀ p₀ found p = (p ≤ length row) × (length found ≡ 64) × Clear (comesThrough row table pattern) p
 
 abbrev μ-loop : tie.MeasureT-loop
-μ-loop row table pattern outline found₀ p₀ found p = length row - p
+μ-loop row table classes pattern outline found₀ p₀ found p = length row - p
 
 -- what the function was given
 abbrev Start : Type 0
 Start = tie.Start Inv-loop μ-loop
 
 abbrev lent : Start → Programme
-lent s = programme (s .args .row .now) (s .args .table .now)
+lent s = programme (s .args .row .now) (s .args .table .now) (s .args .classes .now)
 
 abbrev sought : Start → List ℕ
 sought s = s .args .pattern .now
@@ -41,7 +41,7 @@ abbrev Loop : Type 0
 Loop = tie.At-loop Inv-loop μ-loop
 
 abbrev start : Loop → Start
-start l = l .before .before .before .before .before .before .before
+start l = l .before .before .before .before .before .before .before .before
 
 plain : (l : Loop) → BareIs (sought (start l)) false
 plain l = subst (BareIs (sought (start l))) (l .before .before .if1 .left) (l .before .before .before .is-bare .ensures)
@@ -78,7 +78,7 @@ abbrev ahead : Hit → Ahead
 ahead h = h .before .before .before .before
 
 abbrev found : Hit → ℕ
-found h = getD (h .before .before .list-within .last .1 .1 .1 .1 .1 .1 .0) 0 0
+found h = getD (h .before .before .list-within .last .1 .1 .1 .1 .1 .1 .1 .0) 0 0
 
 first : (h : Hit) → (let t = ahead h in let f = walks (start (loop t)) in (from t ≤ found h) × (found h < to t) × (f (found h) ≡ true) × ((x : ℕ) → from t ≤ x → x < found h → f x ≡ false))
 first h =
@@ -92,11 +92,11 @@ first h =
     )
 
 is-bare-requires : tie.Need-is-bare-requires Inv-loop μ-loop
-is-bare-requires c κs = let s = c .before .before .before in checked-pattern (s .pre .0) (lent s) (sought s) (s .pre .1) .some
+is-bare-requires c κs = let s = c .before .before .before .before in checked-pattern (s .pre .0) (lent s) (sought s) (s .pre .1) .some
 
 returns : tie.Need-returns Inv-loop μ-loop
 returns c a k =
-    let s = c .before .before .before .before .before in
+    let s = c .before .before .before .before .before .before in
     bare-here (lent s) (sought s) (subst (BareIs (sought s)) (c .if1 .taken) (c .before .is-bare .ensures)) a k
 
 outline-of-requires : tie.Need-outline-of-requires Inv-loop μ-loop
@@ -125,11 +125,11 @@ list-within-requires c κs =
     let t = c .before in let l = loop t in let s = start l in
     (record { searchable = s .pre; outlined = l .before .outline-of .ensures (lent s); symbol = plain l }, stretched t .1, omega (arith, l .loop .inv .1, stretched t .1 .short))
 
-array-read-t20 : tie.Need-array-read-t20 Inv-loop μ-loop
-array-read-t20 c = search needs
+array-read-t21 : tie.Need-array-read-t21 Inv-loop μ-loop
+array-read-t21 c = search needs
 
-cast-t21 : tie.Need-cast-t21 Inv-loop μ-loop
-cast-t21 c = let s = start (loop (ahead c)) in record { fits = omega (arith, first c .1, stretched (ahead c) .1 .within, checked-ends (s .pre .0) (lent s) (sought s) (s .pre .1) .most) }
+cast-t22 : tie.Need-cast-t22 Inv-loop μ-loop
+cast-t22 c = let s = start (loop (ahead c)) in record { fits = omega (arith, first c .1, stretched (ahead c) .1 .within, checked-ends (s .pre .0) (lent s) (sought s) (s .pre .1) .most) }
 
 returns-2 : tie.Need-returns-2 Inv-loop μ-loop
 returns-2 c a k =
@@ -169,8 +169,8 @@ first-match-spec =
     shorter-requires
     slice-aggregate-list-within
     list-within-requires
-    array-read-t20
-    cast-t21
+    array-read-t21
+    cast-t22
     returns-2
     loop-less
     loop-again

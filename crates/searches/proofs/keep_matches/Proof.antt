@@ -12,34 +12,34 @@ use lib.ListN.{length, getD, take, set, length-set}
 use Rattle.rows.specs.Limits.{rowMost}
 use Rattle.rows.specs.Programme.{Programme, programme}
 use Rattle.patterns.specs.Walk.{through, comesThrough}
-use Rattle.patterns.proofs.Matching.{checked-ends}
+use Rattle.patterns.proofs.Matching.{checked-ends, checked-classes}
 use Rattle.searches.specs.Searches.{Kept}
-use Rattle.searches.proofs.Going.{lent-ends, Walking, walking-inside, walking-alike, walking-same, walking-next, walking-miss, walking-through}
+use Rattle.searches.proofs.Going.{Walking, walking-inside, walking-alike, walking-same, walking-next, walking-miss, walking-through}
 use Rattle.searches.proofs.Keeping.{kept-none, kept-more, kept-same}
 use borrow.Author.Needs.{needs}
 use Rattle.searches.proofs.keep_matches.Statement.{statement}
 use Rattle.searches.proofs.keep_matches.Tie as tie
 
 abbrev Inv-loop : tie.InvT-loop
-Inv-loop row table pattern compared places many out before count i₀ p marks₀ most alike j₀ k₀ i marks j k =
-    (i ≡ i₀) × Walking (programme row table) pattern p marks j k
+Inv-loop row table classes pattern compared places many out before count i₀ p marks₀ most alike j₀ k₀ i marks j k =
+    (i ≡ i₀) × Walking (programme row table classes) pattern p marks j k
 
 abbrev μ-loop : tie.MeasureT-loop
-μ-loop row table pattern compared places many out before count i₀ p marks₀ most alike j₀ k₀ i marks j k = length pattern - k
+μ-loop row table classes pattern compared places many out before count i₀ p marks₀ most alike j₀ k₀ i marks j k = length pattern - k
 
 abbrev Inv-places : tie.InvT-places
-Inv-places row table pattern compared places many out₀ before count₀ i₀ out count i =
+Inv-places row table classes pattern compared places many out₀ before count₀ i₀ out count i =
     (i ≤ many) × (count ≤ before + i) × (length out ≡ length out₀) × Kept (comesThrough row table pattern) (take i places) out₀ before count out
 
 abbrev μ-places : tie.MeasureT-places
-μ-places row table pattern compared places many out₀ before count₀ i₀ out count i = many - i
+μ-places row table classes pattern compared places many out₀ before count₀ i₀ out count i = many - i
 
 -- what the function was given
 abbrev Start : Type 0
 Start = tie.Start Inv-loop μ-loop Inv-places μ-places
 
 abbrev lent : Start → Programme
-lent s = programme (s .args .row .now) (s .args .table .now)
+lent s = programme (s .args .row .now) (s .args .table .now) (s .args .classes .now)
 
 abbrev sought : Start → List ℕ
 sought s = s .args .pattern .now
@@ -53,7 +53,7 @@ abbrev Outer : Type 0
 Outer = tie.At-places Inv-loop μ-loop Inv-places μ-places
 
 abbrev start : Outer → Start
-start u = u .before .before .before .before .before
+start u = u .before .before .before .before .before .before
 
 -- the position of a place
 abbrev position : Outer → ℕ
@@ -88,7 +88,7 @@ bounded u h =
 
 places-holds : tie.Need-places-holds Inv-loop μ-loop Inv-places μ-places
 places-holds c =
-    let s = c .before .before .before .before in
+    let s = c .before .before .before .before .before in
     (omega arith, omega arith, refl, kept-none (test s) (s .args .out .now) (s .args .before))
 
 mul-p : tie.Need-mul-p Inv-loop μ-loop Inv-places μ-places
@@ -144,7 +144,7 @@ add-j-2 c = search needs
 step-requires : tie.Need-step-requires Inv-loop μ-loop Inv-places μ-places
 step-requires c κs =
     let n = c .before .before .before .before .before in let l = n .before in let s = start (outer l) in
-    (checked-ends (s .pre .0 .searchable .0) (lent s) (sought s) (s .pre .0 .searchable .1), l .loop .inv .1 .marks, inside n, sym (c .before .before .same .ensures) ∙ c .before .if1 .left)
+    (checked-ends (s .pre .0 .searchable .0) (lent s) (sought s) (s .pre .0 .searchable .1), checked-classes (s .pre .0 .searchable .0) (lent s) (sought s) (s .pre .0 .searchable .1), l .loop .inv .1 .marks, inside n, sym (c .before .before .same .ensures) ∙ c .before .if1 .left)
 
 enum-known-found : tie.Need-enum-known-found Inv-loop μ-loop Inv-places μ-places
 enum-known-found c = search needs
@@ -161,9 +161,9 @@ places-less c = search needs
 places-again : tie.Need-places-again Inv-loop μ-loop Inv-places μ-places
 places-again c =
     let t = c .before .before in let other = t .before .before in let n = other .before .before .before .before in let l = n .before in let u = outer l in let s = start u in let o = u .places in let i = l .loop in
-    let missed = walking-miss (lent s) (sought s) (position u) (s .pre .0 .searchable) (i .marks) (i .j) (i .k) (i .inv .1) (numbered n) _ _ (t .step .ensures) _ _ (c .enum-told .given .1) in
+    let missed = walking-miss (lent s) (sought s) (position u) (s .pre .0 .searchable) (i .marks) (i .j) (i .k) (i .inv .1) (numbered n) _ _ (t .step .ensures (i .k)) (c .enum-told .given .1) in
     let before = l .before .before .before .before .places-test .taken in
-    let same = kept-same (test s) (s .args .out .now) (s .args .places .now) (s .args .before) (o .i) (o .count) (o .out) (o .inv .3) (omega (arith, before, s .pre)) (ap through (missed (s .args .table .now) (lent-ends (lent s)))) in (
+    let same = kept-same (test s) (s .args .out .now) (s .args .places .now) (s .args .before) (o .i) (o .count) (o .out) (o .inv .3) (omega (arith, before, s .pre)) missed in (
       omega (arith, before, i .inv .0),
       omega (arith, o .inv .1, i .inv .0),
       o .inv .2,
@@ -184,7 +184,7 @@ loop-again c =
       i .inv .0,
       ⊎-elim
           (λ x. subst₂ here (sym (x .1)) (sym (x .2)) (walking-same (lent s) (sought s) p (s .pre .0 .searchable) (i .marks) (i .j) (i .k) (i .inv .1) (numbered (c .before .before .before .before)) (sym (c .before .same .ensures) ∙ x .0 .taken)))
-          (λ x. subst₂ here (sym (x .6)) (sym (x .7)) (walking-next (lent s) (sought s) p (s .pre .0 .searchable) (i .marks) (i .j) (i .k) (i .inv .1) (numbered (c .before .before .before .before)) _ _ (x .2 .ensures) _ (x .4 .given .1)))
+          (λ x. subst₂ here (sym (x .6)) (sym (x .7)) (walking-next (lent s) (sought s) p (s .pre .0 .searchable) (i .marks) (i .j) (i .k) (i .inv .1) (numbered (c .before .before .before .before)) _ _ (x .2 .ensures (i .k)) _ (x .4 .given .1)))
           (c .if1 .came),
     )
 

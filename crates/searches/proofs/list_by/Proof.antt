@@ -12,8 +12,8 @@ use Rattle.searches.proofs.list_by.Statement.{statement}
 use Rattle.searches.proofs.list_by.Tie as tie
 
 -- as many matches as were written have room
-within : (c : tie.After-write-matches) → c .write-matches .result ≤ length (c .before .before .before .before .before .before .before .args .room .now)
-within c = let s = c .before .before .before .before .before .before .before in c .write-matches .ensures (s .pre .0 .0) (s .pre .0 .1) .told .1
+within : (c : tie.After-write-matches) → c .write-matches .result ≤ length (c .before .before .before .before .before .before .before .before .args .room .now)
+within c = let s = c .before .before .before .before .before .before .before .before in c .write-matches .ensures (s .pre .0 .0) (s .pre .0 .1) .told .1
 
 write-matches-requires : tie.Need-write-matches-requires
 write-matches-requires c κs = search needs
@@ -45,11 +45,11 @@ returns-2 : tie.Need-returns-2
 returns-2 c a k =
     let w = c .before .before .before .before .before .before .before .before in
     let n = w .write-matches .ensures a k in
-    let same = ap (take (w .write-matches .result)) (n .told .2) ∙ front-taken (c .before .before .before .before .before .before .before .before .before .before .before .before .before .before .before .args .room .now) (n .positions) _ (n .told .0) in
+    let same = ap (take (w .write-matches .result)) (n .told .2) ∙ front-taken (c .before .before .before .before .before .before .before .before .before .before .before .before .before .before .before .before .args .room .now) (n .positions) _ (n .told .0) in
     record {
       positions = n .positions;
       listed = n .listed;
-      told = (n .told .0, c .before .before .before .before .before .if1 .left, c .before .before .copy-into .ensures ∙ ap (written (c .before .before .before .before .before .before .before .before .before .before .before .before .before .before .before .args .out .now) 0) same);
+      told = (n .told .0, c .before .before .before .before .before .if1 .left, c .before .before .copy-into .ensures ∙ ap (written (c .before .before .before .before .before .before .before .before .before .before .before .before .before .before .before .before .args .out .now) 0) same);
     }
 
 pub list-by-spec : {M : Type 1} → statement M

@@ -10,7 +10,7 @@ use lib.Seq.{length-take-le, getD-take}
 use Rattle.rows.specs.Programme.{Programme, programme}
 use Rattle.rows.specs.Buffers.{written}
 use Rattle.patterns.specs.Walk.{sameSymbol, comesThrough}
-use Rattle.patterns.proofs.Matching.{checked-ends, checked-pattern}
+use Rattle.patterns.proofs.Matching.{checked-ends, checked-classes, checked-pattern}
 use Rattle.patterns.specs.Searchable.{BlankFrom}
 use Rattle.searches.specs.Searches.{Twin, mayMatch, range, passing, twins}
 use Rattle.searches.proofs.Passing.{passing-each}
@@ -22,7 +22,7 @@ use Rattle.searches.proofs.list_within.Statement.{statement}
 use Rattle.searches.proofs.list_within.Tie as tie
 
 abbrev lent : tie.Start → Programme
-lent s = programme (s .args .row .now) (s .args .table .now)
+lent s = programme (s .args .row .now) (s .args .table .now) (s .args .classes .now)
 
 abbrev sought : tie.Start → List ℕ
 sought s = s .args .pattern .now
@@ -57,7 +57,7 @@ abbrev Gathered : Type 0
 Gathered = tie.After-write-candidates
 
 abbrev start : Gathered → tie.Start
-start w = w .before .before .before .before .before .before .before
+start w = w .before .before .before .before .before .before .before .before
 
 abbrev places : Gathered → List ℕ
 places w = w .write-candidates .last .1 .1 .1 .1 .1 .1 .0
@@ -84,19 +84,19 @@ each w i h =
 
 -- over a variable twice, two subtrees stand there, and the walk says whether they are the same
 pair : (w : Gathered) → Twin (sought (start w)) → (i : ℕ) → i < many w → (let s = start w in let p = getD (places w) i 0 in
-    (p + 1 < length (s .args .row .now)) × (getD (s .args .table .now) (p + 1) 0 < length (s .args .row .now)) × (twins (s .args .row .now) (s .args .table .now) p ≡ walks s p))
+    (p + 1 < length (s .args .row .now)) × (getD (s .args .table .now) (p + 1) 0 < length (s .args .row .now)) × (twins (s .args .table .now) (s .args .classes .now) p ≡ walks s p))
 pair w t i h =
     let s = start w in let p = getD (places w) i 0 in let e = each w i h in
     (first-in (lent s) (sought s) (s .pre .0 .searchable) t p (e .0) (e .1), second-in (lent s) (sought s) (s .pre .0 .searchable) t p (e .0) (e .1), twins-walk (lent s) (sought s) (s .pre .0 .searchable) t p (e .0) (e .1))
 
 shared-slice-read-write-candidates : tie.Need-shared-slice-read-write-candidates
 shared-slice-read-write-candidates c =
-    let s = c .before .before .before .before .before in
+    let s = c .before .before .before .before .before .before in
     checked-pattern (s .pre .0 .searchable .0) (lent s) (sought s) (s .pre .0 .searchable .1) .some
 
 write-candidates-requires : tie.Need-write-candidates-requires
 write-candidates-requires c κs =
-    let s = c .before .before .before .before .before .before in
+    let s = c .before .before .before .before .before .before .before in
     (checked-ends (s .pre .0 .searchable .0) (lent s) (sought s) (s .pre .0 .searchable .1), s .pre .1, refl)
 
 keep-all-requires : tie.Need-keep-all-requires
@@ -121,7 +121,18 @@ keep-twins-requires : tie.Need-keep-twins-requires
 keep-twins-requires c κs =
     let w = c .before .before .before .before .before .before in let s = start w in
     let p = pair w (c .before .before .before .is-twin .ensures (c .before .before .if2 .taken)) in
-    (record { ends = checked-ends (s .pre .0 .searchable .0) (lent s) (sought s) (s .pre .0 .searchable .1); first = λ i h. p i h .0; second = λ i h. p i h .1 }, few w .0, few w .2, omega (arith, few w, s .pre .2))
+    let ends = checked-ends (s .pre .0 .searchable .0) (lent s) (sought s) (s .pre .0 .searchable .1) in
+    let room = checked-classes (s .pre .0 .searchable .0) (lent s) (sought s) (s .pre .0 .searchable .1) .long in (
+      record {
+        small = λ i h. omega (arith, p i h .0, ends .most);
+        first = λ i h. omega (arith, p i h .0, ends .long);
+        first-class = λ i h. omega (arith, p i h .0, room);
+        second-class = λ i h. omega (arith, p i h .1, room);
+      },
+      few w .0,
+      few w .2,
+      omega (arith, few w, s .pre .2),
+    )
 
 same-length-2 : tie.Need-same-length-2
 same-length-2 c = search needs
@@ -131,10 +142,10 @@ returns-2 c =
     let k = c .before .before in let t = k .before .before .before .before in let w = t .before .before .before in let s = start w in
     let p = pair w (t .is-twin .ensures (k .before .before .before .if2 .taken)) in
     let size : length (take (many w) (places w)) ≡ many w = length-take-le (many w) (places w) (omega (arith, few w)) in
-    let same : (i : ℕ) → i < length (take (many w) (places w)) → twins (s .args .row .now) (s .args .table .now) (getD (take (many w) (places w)) i 0) ≡ walks s (getD (take (many w) (places w)) i 0) =
-    λ i h. subst (λ (x : ℕ). twins (s .args .row .now) (s .args .table .now) x ≡ walks s x) (sym (getD-take (many w) (places w) i 0 (omega (arith, h, size)))) (p i (omega (arith, h, size)) .2) in
+    let same : (i : ℕ) → i < length (take (many w) (places w)) → twins (s .args .table .now) (s .args .classes .now) (getD (take (many w) (places w)) i 0) ≡ walks s (getD (take (many w) (places w)) i 0) =
+    λ i h. subst (λ (x : ℕ). twins (s .args .table .now) (s .args .classes .now) x ≡ walks s x) (sym (getD-take (many w) (places w) i 0 (omega (arith, h, size)))) (p i (omega (arith, h, size)) .2) in
     candidates-kept (walks s) (s .args .out .now) (may s) (s .args .from) (long s) (many w) (places w) (w .write-candidates .ensures .2) (implied s) (s .args .before) _ _
-    (kept-alike (walks s) (s .args .out .now) (twins (s .args .row .now) (s .args .table .now)) (take (many w) (places w)) (s .args .before) _ _ same (k .keep-twins .ensures))
+    (kept-alike (walks s) (s .args .out .now) (twins (s .args .table .now) (s .args .classes .now)) (take (many w) (places w)) (s .args .before) _ _ same (k .keep-twins .ensures))
 
 keep-matches-requires : tie.Need-keep-matches-requires
 keep-matches-requires c κs =

@@ -2,39 +2,42 @@
 -- marks of a walk that comes through are those of the variables' first places.
 -- Assumes nothing.
 use Prim.Native.Nat.{ℕ, _-_, _+_, _<_}
-use mathlib.Core.Path.{_≡_, refl, sym, _∙_, subst₂}
+use mathlib.Core.Path.{_≡_, refl, sym, _∙_, subst, subst₂}
+use mathlib.Core.Bool.{false}
 use mathlib.Core.Logic.{⊎-elim}
 use mathlib.Core.List.{List}
 use native.Mathlib.Omega.{arith}
-use lib.ListN.{length}
+use lib.ListN.{length, getD}
 use Rattle.rows.specs.Programme.{Programme, programme}
+use Rattle.patterns.specs.Walk.{sameSymbol, steps, Ends, MarksIn, stepped, Misses}
+use Rattle.patterns.specs.declared.Stepped.the-variants.{Miss}
 use Rattle.patterns.proofs.Marks.{marks-wider}
-use Rattle.patterns.proofs.Matching.{checked-ends}
-use Rattle.searches.proofs.Going.{Walking, walking-start, walking-inside, walking-same, walking-next, walking-miss, walking-end}
-use Rattle.searches.proofs.Binding.{variables-none, variables-some}
+use Rattle.patterns.proofs.Matching.{checked-ends, checked-classes}
+use Rattle.searches.proofs.Going.{Walking, walking-start, walking-inside, walking-same, walking-next, walking-stops, missed-marks, walking-end}
+use Rattle.searches.proofs.Binding.{variables-missed, variables-some}
 use borrow.Author.Needs.{needs}
 use Rattle.searches.proofs.variables_at.Statement.{statement}
 use Rattle.searches.proofs.variables_at.Tie as tie
 
 abbrev Inv-loop : tie.InvT-loop
-Inv-loop row table pattern p out marks₀ j₀ k₀ k-end marks j k = (k-end ≡ length pattern) × Walking (programme row table) pattern p marks j k
+Inv-loop row table classes pattern p out marks₀ j₀ k₀ k-end marks j k = (k-end ≡ length pattern) × Walking (programme row table classes) pattern p marks j k
 
 abbrev μ-loop : tie.MeasureT-loop
-μ-loop row table pattern p out marks₀ j₀ k₀ k-end marks j k = length pattern - k
+μ-loop row table classes pattern p out marks₀ j₀ k₀ k-end marks j k = length pattern - k
 
 -- what the function was given
 abbrev Start : Type 0
 Start = tie.Start Inv-loop μ-loop
 
 abbrev lent : Start → Programme
-lent s = programme (s .args .row .now) (s .args .table .now)
+lent s = programme (s .args .row .now) (s .args .table .now) (s .args .classes .now)
 
 abbrev sought : Start → List ℕ
 sought s = s .args .pattern .now
 
 -- at the loop's test
 abbrev start : tie.At-loop Inv-loop μ-loop → Start
-start l = l .before .before .before .before .before
+start l = l .before .before .before .before .before .before
 
 -- a position of the row faces the number at k
 inside : (c : tie.In-loop Inv-loop μ-loop) → (let l = c .before in l .loop .j < length (start l .args .row .now))
@@ -44,7 +47,7 @@ inside c =
 
 loop-holds : tie.Need-loop-holds Inv-loop μ-loop
 loop-holds c =
-    let s = c .before .before .before .before in
+    let s = c .before .before .before .before .before in
     (refl, walking-start (lent s) (sought s) (s .args .p) (s .pre .1))
 
 mul-s : tie.Need-mul-s Inv-loop μ-loop
@@ -68,19 +71,52 @@ add-j c = search needs
 step-requires : tie.Need-step-requires Inv-loop μ-loop
 step-requires c κs =
     let n = c .before .before .before .before .before in let l = n .before in let s = start l in
-    (checked-ends (s .pre .0 .0) (lent s) (sought s) (s .pre .0 .1), l .loop .inv .1 .marks, inside n, sym (c .before .before .same .ensures) ∙ c .before .if1 .left)
+    (checked-ends (s .pre .0 .0) (lent s) (sought s) (s .pre .0 .1), checked-classes (s .pre .0 .0) (lent s) (sought s) (s .pre .0 .1), l .loop .inv .1 .marks, inside n, sym (c .before .before .same .ensures) ∙ c .before .if1 .left)
 
 enum-known-found : tie.Need-enum-known-found Inv-loop μ-loop
 enum-known-found c = search needs
 
-enum-known-found-2 : tie.Need-enum-known-found-2 Inv-loop μ-loop
-enum-known-found-2 c = search needs
+enum-told : tie.Need-enum-told Inv-loop μ-loop
+enum-told c = search needs
+
+-- what is asked of a step that misses, with the marks ms
+abbrev Missing : Start → tie.At-loop Inv-loop μ-loop → List ℕ → Type 0
+Missing s l ms =
+    let w = s .args .row .now in let e = s .args .table .now in let x = getD (sought s) (l .loop .k) 0 in
+    (Ends w e × MarksIn (l .loop .j) ms × (l .loop .j < length w) × (sameSymbol (getD w (l .loop .j) 0) x ≡ false)) × (stepped (steps w e (l .loop .k) x (l .loop .j) ms) ≡ Miss)
+
+-- a step that missed: where it stood, and that the marks are what they were
+module _ (c : tie.After-enum-told Inv-loop μ-loop) where
+  abbrev at : tie.At-loop Inv-loop μ-loop
+  at = c .before .before .before .before .before .before .before .before .before
+
+  abbrev given : Start
+  given = start at
+
+  here : at .loop .k < length (sought given)
+  here = search needs
+
+  abbrev marks-after : List ℕ
+  marks-after = c .before .before .step .last .1 .1 .1 .1 .1 .0
+
+  stays : marks-after ≡ at .loop .marks
+  stays = missed-marks (lent given) (sought given) (given .args .p) (given .pre .0) (at .loop .marks) (at .loop .j) (at .loop .k) (at .loop .inv .1) here _ _ (c .before .before .step .ensures (at .loop .k)) (c .enum-told .given .1)
+
+miss-at-requires : tie.Need-miss-at-requires Inv-loop μ-loop
+miss-at-requires c κs =
+    let m = c .before in let l = at m in let s = given m in
+    subst (Missing s l) (sym (stays m)) (
+      (checked-ends (s .pre .0 .0) (lent s) (sought s) (s .pre .0 .1), l .loop .inv .1 .marks, inside (m .before .before .before .before .before .before .before .before), sym (m .before .before .before .before .before .same .ensures) ∙ m .before .before .before .before .if1 .left),
+      sym (m .before .before .step .ensures (l .loop .k) .answer) ∙ m .enum-told .given .1,
+    )
 
 returns : tie.Need-returns Inv-loop μ-loop
 returns c =
-    let t = c .before .before .before in let other = t .before .before in let n = other .before .before .before .before in let l = n .before in let s = start l in let i = l .loop in
-    let missed = walking-miss (lent s) (sought s) (s .args .p) (s .pre .0) (i .marks) (i .j) (i .k) (i .inv .1) (n .loop-test .taken) _ _ (t .step .ensures) _ _ (c .before .found2 .given .1) in
-    variables-none (lent s) (sought s) (s .args .p) (s .args .out .now) _ _ (s .pre .1) missed
+    let m = c .before .before in let l = at m in let s = given m in let i = l .loop in
+    variables-missed (lent s) (sought s) (s .args .p) (s .args .out .now) (c .miss-at .result)
+    (steps (s .args .row .now) (s .args .table .now) (i .k) (getD (sought s) (i .k) 0) (i .j) (i .marks)) (s .pre .1)
+    (subst (λ (ms : List ℕ). Misses (steps (s .args .row .now) (s .args .table .now) (i .k) (getD (sought s) (i .k) 0) (i .j) ms) (c .miss-at .result)) (stays m) (c .miss-at .ensures))
+    (walking-stops (lent s) (sought s) (s .args .p) (s .pre .0) (i .marks) (i .j) (i .k) (i .inv .1) (here m))
 
 add-k : tie.Need-add-k Inv-loop μ-loop
 add-k c = search needs
@@ -95,7 +131,7 @@ loop-again c =
       refl,
       ⊎-elim
           (λ x. subst₂ here (sym (x .1)) (sym (x .2)) (walking-same (lent s) (sought s) (s .args .p) (s .pre .0) (i .marks) (i .j) (i .k) (i .inv .1) (search needs) (sym (c .before .same .ensures) ∙ x .0 .taken)))
-          (λ x. subst₂ here (sym (x .6)) (sym (x .7)) (walking-next (lent s) (sought s) (s .args .p) (s .pre .0) (i .marks) (i .j) (i .k) (i .inv .1) (search needs) _ _ (x .2 .ensures) _ (x .4 .given .1)))
+          (λ x. subst₂ here (sym (x .6)) (sym (x .7)) (walking-next (lent s) (sought s) (s .args .p) (s .pre .0) (i .marks) (i .j) (i .k) (i .inv .1) (search needs) _ _ (x .2 .ensures (i .k)) _ (x .4 .given .1)))
           (c .if1 .came),
     )
 
@@ -129,7 +165,8 @@ variables-at-spec =
     add-j
     step-requires
     enum-known-found
-    enum-known-found-2
+    enum-told
+    miss-at-requires
     returns
     add-k
     loop-less

@@ -21,18 +21,18 @@ use Rattle.searches.proofs.write_matches.Statement.{statement}
 use Rattle.searches.proofs.write_matches.Tie as tie
 
 abbrev Inv-loop : tie.InvT-loop
-Inv-loop row table pattern out₀ outline count₀ p₀ out count p =
+Inv-loop row table classes pattern out₀ outline count₀ p₀ out count p =
     (p ≤ length row) × (length out ≡ length out₀) × Kept (comesThrough row table pattern) (range 0 p) out₀ 0 count out
 
 abbrev μ-loop : tie.MeasureT-loop
-μ-loop row table pattern out₀ outline count₀ p₀ out count p = length row - p
+μ-loop row table classes pattern out₀ outline count₀ p₀ out count p = length row - p
 
 -- what the function was given
 abbrev Start : Type 0
 Start = tie.Start Inv-loop μ-loop
 
 abbrev lent : Start → Programme
-lent s = programme (s .args .row .now) (s .args .table .now)
+lent s = programme (s .args .row .now) (s .args .table .now) (s .args .classes .now)
 
 abbrev sought : Start → List ℕ
 sought s = s .args .pattern .now
@@ -45,7 +45,7 @@ abbrev Loop : Type 0
 Loop = tie.At-loop Inv-loop μ-loop
 
 abbrev start : Loop → Start
-start l = l .before .before .before .before .before .before .before .before
+start l = l .before .before .before .before .before .before .before .before .before
 
 plain : (l : Loop) → BareIs (sought (start l)) false
 plain l = subst (BareIs (sought (start l))) (l .before .before .if1 .left) (l .before .before .before .is-bare .ensures)
@@ -75,11 +75,11 @@ stretched t =
     (omega (arith, t .shorter .ensures, over .0, t .before .before .before .loop-test .taken), record { on = omega (arith, t .shorter .ensures, over .1); short = omega (arith, t .shorter .ensures); within = omega (arith, t .shorter .ensures) })
 
 is-bare-requires : tie.Need-is-bare-requires Inv-loop μ-loop
-is-bare-requires c κs = let s = c .before .before .before .before in checked-pattern (s .pre .0 .0) (lent s) (sought s) (s .pre .0 .1) .some
+is-bare-requires c κs = let s = c .before .before .before .before .before in checked-pattern (s .pre .0 .0) (lent s) (sought s) (s .pre .0 .1) .some
 
 write-positions-requires : tie.Need-write-positions-requires Inv-loop μ-loop
 write-positions-requires c κs =
-    let b = c .before in let s = b .before .before .before .before .before .before in
+    let b = c .before in let s = b .before .before .before .before .before .before .before in
     (s .pre .1, s .pre .0 .1 .row .sized .most)
 
 same-length : tie.Need-same-length Inv-loop μ-loop
@@ -87,7 +87,7 @@ same-length c = search needs
 
 returns : tie.Need-returns Inv-loop μ-loop
 returns c a k =
-    let b = c .before .before .before .before in let s = b .before .before .before .before .before .before in
+    let b = c .before .before .before .before in let s = b .before .before .before .before .before .before .before in
     let n = length (s .args .row .now) in
     let bare = subst (BareIs (sought s)) (b .if1 .taken) (b .before .is-bare .ensures) in
     record {
@@ -102,7 +102,7 @@ outline-of-requires c κs = search needs
 loop-holds : tie.Need-loop-holds Inv-loop μ-loop
 unfolding range
 loop-holds c =
-    let s = c .before .before .before .before .before .before .before in
+    let s = c .before .before .before .before .before .before .before .before in
     (omega arith, refl, kept-none (walks s) (s .args .out .now) 0)
 
 shared-slice-read-pass-over : tie.Need-shared-slice-read-pass-over Inv-loop μ-loop

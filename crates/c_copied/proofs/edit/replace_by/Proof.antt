@@ -1,6 +1,6 @@
 -- `c_copied::replace_by` meets its contract. A replacement over its limit is refused; one within it is read from its copy.
 -- Assumes nothing.
-use Prim.Native.Nat.{ℕ, _+_, _-_, min}
+use Prim.Native.Nat.{ℕ, _+_, _-_, _≤_, min}
 use mathlib.Core.Path.{_≡_, sym, ap, ap₂, subst, _∙_}
 use mathlib.Core.List.{List}
 use native.Mathlib.Omega.{arith}
@@ -33,7 +33,7 @@ module _ (s : tie.Start) where
   a = alphabetOf (s .args .arities .now)
 
   abbrev b : Lent
-  b = lent (s .args .row .now) (s .args .table .now)
+  b = lent (s .args .row .now) (s .args .table .now) (s .args .classes .now)
 
   abbrev n : ℕ
   n = s .args .n
@@ -47,37 +47,36 @@ module _ (s : tie.Start) where
   held : Held a (numbersOf b) n
   held = given-held a (numbersOf b) n (s .pre .0)
 
-  copied : Held a (programme (s .args .w .now) (s .args .t .now)) n
-  copied =
-      let r = s .pre .1 .1 in
-      copy-held a (numbersOf b) n (s .args .w .now) (s .args .t .now) (s .pre .1 .0) held (omega (arith, held .most, r .row)) (omega (arith, held .most, r .table))
+  fits : n ≤ room (programme (s .args .w .now) (s .args .t .now) (s .args .c .now))
+  fits = let r = s .pre .1 .1 in omega (arith, held .most, r .row, r .table, r .classes)
 
-  -- row and table are right, so the replacement and its place decide
+  copied : Held a (programme (s .args .w .now) (s .args .t .now) (s .args .c .now)) n
+  copied = copy-held a (numbersOf b) n (s .args .w .now) (s .args .t .now) (s .args .c .now) (s .pre .1 .0) held fits
+
+  -- row, table and classes are right, so the replacement and its place decide
   decided : (r : Check) → replacement (a .arities) v then position n p then grown (p + length v + (n - getD (s .args .t .now) p 0)) (room (numbersOf b)) ≡ r
       → replaceCheck a (numbersOf b) n v p ≡ r
-  decided r e =
-      let q = s .pre .1 .1 in
-      copy-decides a (numbersOf b) n (s .args .w .now) (s .args .t .now) (s .pre .1 .0) held (omega (arith, held .most, q .row)) (omega (arith, held .most, q .table)) v p (s .pre .0) ∙ e
+  decided r e = copy-decides a (numbersOf b) n (s .args .w .now) (s .args .t .now) (s .args .c .now) (s .pre .1 .0) held fits v p (s .pre .0) ∙ e
 
-small : (c : tie.After-count) → AreBytes (b (c .before .before .before .before .before .before .before .before .before))
-small c = record { row = λ i. c .before .before .before .before .before .before .before .slice-known .given i .fits; table = λ i. c .before .before .before .before .before .before .slice-known2 .given i .fits }
+small : (c : tie.After-count) → AreBytes (b (c .before .before .before .before .before .before .before .before .before .before .before))
+small c = record { row = λ i. c .before .before .before .before .before .before .before .before .before .slice-known .given i .fits; table = λ i. c .before .before .before .before .before .before .before .before .slice-known2 .given i .fits; classes = λ i. c .before .before .before .before .before .before .before .slice-known3 .given i .fits }
 
 -- the copy of the replacement
-front : (c : tie.After-decode) → take (c .before .before .before .count .result) (c .decode .last .1 .1 .0) ≡ v (c .before .before .before .before .before .before .before .before .before .before .before .before)
+front : (c : tie.After-decode) → take (c .before .before .before .count .result) (c .decode .last .1 .1 .0) ≡ v (c .before .before .before .before .before .before .before .before .before .before .before .before .before .before)
 front c =
     let k = c .before .before .before .count in
-    let l = v (c .before .before .before .before .before .before .before .before .before .before .before .before) in
+    let l = v (c .before .before .before .before .before .before .before .before .before .before .before .before .before .before) in
     ap (take (k .result)) (c .decode .ensures)
-    ∙ front-read l (c .before .before .before .before .before .before .before .before .before .before .before .before .args .v .now) (k .result) (omega (arith, k .ensures))
+    ∙ front-read l (c .before .before .before .before .before .before .before .before .before .before .before .before .before .before .args .v .now) (k .result) (omega (arith, k .ensures))
     ∙ ap (λ (i : ℕ). take i l) (k .ensures)
     ∙ take-length l
 
-checked : (c : tie.After-check-replacement) (r : Check) → c .check-replacement .result ≡ r → (let s = c .before .before .before .before .before .before .before .before .before .before .before .before .before .before .before .before .before .before .before .before .before .before in replaceCheck (a s) (numbersOf (b s)) (n s) (v s) (p s) ≡ r)
+checked : (c : tie.After-check-replacement) (r : Check) → c .check-replacement .result ≡ r → (let s = c .before .before .before .before .before .before .before .before .before .before .before .before .before .before .before .before .before .before .before .before .before .before .before .before .before .before in replaceCheck (a s) (numbersOf (b s)) (n s) (v s) (p s) ≡ r)
 checked c r e =
-    let s = c .before .before .before .before .before .before .before .before .before .before .before .before .before .before .before .before .before .before .before .before .before .before in
+    let s = c .before .before .before .before .before .before .before .before .before .before .before .before .before .before .before .before .before .before .before .before .before .before .before .before .before .before in
     let told : List ℕ → ℕ → Check =
     λ l k. replacement (a s .arities) l then position (n s) (p s) then grown (p s + length l + (n s - getD (s .args .t .now) (p s) 0)) k in
-    decided s r (ap₂ told (sym (front (c .before .before .before .before .before .before .before .before .before .before))) (sym (c .before .before .before .shorter .ensures ∙ ap₂ min (c .before .before .before .before .before .before .count2 .ensures) (c .before .before .before .before .count3 .ensures))) ∙ sym (c .check-replacement .ensures) ∙ e)
+    decided s r (ap₂ told (sym (front (c .before .before .before .before .before .before .before .before .before .before .before .before))) (sym (c .before .before .before .shortest .ensures ∙ ap₂ min (c .before .before .before .before .before .before .before .before .count2 .ensures) (ap₂ min (c .before .before .before .before .before .before .count3 .ensures) (c .before .before .before .before .count4 .ensures)))) ∙ sym (c .check-replacement .ensures) ∙ e)
 
 count-requires : tie.Need-count-requires
 count-requires c κs = search needs
@@ -87,7 +86,7 @@ refusal-of-requires c κs = search needs
 
 returns : tie.Need-returns
 returns c =
-    let s = c .before .before .before .before .before .before .before .before .before .before .before in
+    let s = c .before .before .before .before .before .before .before .before .before .before .before .before .before in
     let m = c .before .before .count .ensures in
     replaced-refused (a s) (b s) (n s) (v s) (p s) (small (c .before .before)) (c .refusal-of .result) (Replacement (Long (length (v s))))
     (decided s _ (ap (λ (k : Check). k then position (n s) (p s) then grown (p s + length (v s) + (n s - getD (s .args .t .now) (p s) 0)) (room (numbersOf (b s)))) (replacement-long (a s .arities) (v s) (omega (arith, m, c .before .if1 .taken)))))
@@ -102,8 +101,11 @@ count-requires-2 c κs = search needs
 count-requires-3 : tie.Need-count-requires-3
 count-requires-3 c κs = search needs
 
-shorter-requires : tie.Need-shorter-requires
-shorter-requires c κs = search needs
+count-requires-4 : tie.Need-count-requires-4
+count-requires-4 c κs = search needs
+
+shortest-requires : tie.Need-shortest-requires
+shortest-requires c κs = search needs
 
 slice-reshare-prefix-check-replacement : tie.Need-slice-reshare-prefix-check-replacement
 slice-reshare-prefix-check-replacement c = search needs
@@ -113,9 +115,9 @@ slice-aggregate-check-replacement c = sym (length-take-le _ _ (slice-reshare-pre
 
 check-replacement-requires : tie.Need-check-replacement-requires
 check-replacement-requires c κs =
-    let s = c .before .before .before .before .before .before .before .before .before .before .before .before .before .before .before .before .before .before .before .before .before in
+    let s = c .before .before .before .before .before .before .before .before .before .before .before .before .before .before .before .before .before .before .before .before .before .before .before .before .before in
     let h = copied s in
-    (h .most, omega (arith, h .fits), held-end (a s) (programme (s .args .w .now) (s .args .t .now)) (n s) (p s) h)
+    (h .most, omega (arith, h .fits), held-end (a s) (programme (s .args .w .now) (s .args .t .now) (s .args .c .now)) (n s) (p s) h)
 
 enum-known-r : tie.Need-enum-known-r
 enum-known-r c = search needs
@@ -127,23 +129,24 @@ enum-told : tie.Need-enum-told
 enum-told c = search needs
 
 slice-reshare-prefix-write-replaced : tie.Need-slice-reshare-prefix-write-replaced
-slice-reshare-prefix-write-replaced c = search needs
+slice-reshare-prefix-write-replaced c = omega (arith, c .before .before .before .before .before .before .before .before .before .before .before .before .before .before .before .before .before .before .before .before .count .ensures, c .before .before .before .before .before .before .before .before .before .before .before .before .before .before .before .before .before .before .before .if1 .left, c .before .before .before .before .before .before .before .before .before .before .before .before .before .before .before .before .before .before .before .before .before .before .before .before .before .before .before .before .before .before .before .pre .1 .1 .replacement, c .before .before .before .before .before .before .before .before .before .before .before .before .before .before .before .before .before .decode .kept)
 
 slice-aggregate-write-replaced : tie.Need-slice-aggregate-write-replaced
 slice-aggregate-write-replaced c = sym (length-take-le _ _ (slice-reshare-prefix-write-replaced (c .before)))
 
 write-replaced-requires : tie.Need-write-replaced-requires
 write-replaced-requires c κs =
-    let s = c .before .before .before .before .before .before .before .before .before .before .before .before .before .before .before .before .before .before .before .before .before .before .before .before .before .before .before .before .before .before in
-    let d = c .before .before .before .before .before .before .before .before .before .before .before .before .before .before .before .before .before .before in
+    let s = c .before .before .before .before .before .before .before .before .before .before .before .before .before .before .before .before .before .before .before .before .before .before .before .before .before .before .before .before .before .before .before .before .before .before .before .before in
+    let d = c .before .before .before .before .before .before .before .before .before .before .before .before .before .before .before .before .before .before .before .before .before .before in
     let r = s .pre .1 .1 in
     let same = ap length (front d) in (
-      ap (λ (l : List ℕ). replaceCheck (a s) (numbersOf (b s)) (n s) l (p s)) (front d) ∙ checked (c .before .before .before .before .before .before .before .before) Fine (c .before .before .before .before .before .before .enum-told .given .1),
+      ap (λ (l : List ℕ). replaceCheck (a s) (numbersOf (b s)) (n s) l (p s)) (front d) ∙ checked (c .before .before .before .before .before .before .before .before .before .before) Fine (c .before .before .before .before .before .before .before .before .enum-told .given .1),
       (
         s .pre .1 .0,
         record {
           row = omega (arith, same, r .row);
           table = omega (arith, same, r .table);
+          classes = omega (arith, same, r .classes);
           replacement = omega (arith, same);
           ends = omega (arith, same, r .ends);
         },
@@ -162,14 +165,14 @@ same-length-3 c = search needs
 same-length-4 : tie.Need-same-length-4
 same-length-4 c = search needs
 
-returns-2 : tie.Need-returns-2
-returns-2 c =
-    let s = c .before .before .before .before .before .before .before .before .before .before .before .before .before .before .before .before .before .before .before .before .before .before .before .before .before .before in
-    let r = c .before .before .r .given .0 .0 in
-    replaced-refused (a s) (b s) (n s) (v s) (p s) (small (c .before .before .before .before .before .before .before .before .before .before .before .before .before .before .before .before .before)) (c .refusal-of2 .result) r (checked (c .before .before .before .before) (Refused r) (c .before .before .r .given .1)) (c .refusal-of2 .ensures)
-
 same-length-5 : tie.Need-same-length-5
 same-length-5 c = search needs
+
+returns-2 : tie.Need-returns-2
+returns-2 c =
+    let s = c .before .before .before .before .before .before .before .before .before .before .before .before .before .before .before .before .before .before .before .before .before .before .before .before .before .before .before .before .before .before in
+    let r = c .before .before .r .given .0 .0 in
+    replaced-refused (a s) (b s) (n s) (v s) (p s) (small (c .before .before .before .before .before .before .before .before .before .before .before .before .before .before .before .before .before .before .before)) (c .refusal-of2 .result) r (checked (c .before .before .before .before) (Refused r) (c .before .before .r .given .1)) (c .refusal-of2 .ensures)
 
 same-length-6 : tie.Need-same-length-6
 same-length-6 c = search needs
@@ -181,16 +184,25 @@ same-length-8 : tie.Need-same-length-8
 same-length-8 c = search needs
 
 same-length-9 : tie.Need-same-length-9
-same-length-9 c = c .before .before .before .before .before .before .before .before .before .before .before .before .before .before .before .before .before .before .before .before .before .before .before .before .before .before .before .before .before .decode .kept .1 .1 .0
+same-length-9 c = search needs
 
 same-length-10 : tie.Need-same-length-10
 same-length-10 c = search needs
 
+same-length-11 : tie.Need-same-length-11
+same-length-11 c = search needs
+
+same-length-12 : tie.Need-same-length-12
+same-length-12 c = c .before .before .before .before .before .before .before .before .before .before .before .before .before .before .before .before .before .before .before .before .before .before .before .before .before .before .before .before .before .before .before .before .before .before .before .before .before .decode .kept .1 .1 .0
+
+same-length-13 : tie.Need-same-length-13
+same-length-13 c = search needs
+
 returns-3 : tie.Need-returns-3
 returns-3 c =
-    let s = c .before .before .before .before .before .before .before .before .before .before .before .before .before .before .before .before .before .before .before .before .before .before .before .before .before .before .before .before .before .before .before .before .before .before .before .before .before .before .before .before .before in
-    let w = c .before .before .before .before .before .before .before .before .before .before .write-replaced in
-    subst (λ (l : List ℕ). ReplacedBytes (a s) (b s) (n s) l (p s) (w .result) (lent (w .last .1 .0) (w .last .1 .1 .0))) (front (c .before .before .before .before .before .before .before .before .before .before .before .before .before .before .before .before .before .before .before .before .before .before .before .before .before .before .before .before .before)) (w .ensures)
+    let s = c .before .before .before .before .before .before .before .before .before .before .before .before .before .before .before .before .before .before .before .before .before .before .before .before .before .before .before .before .before .before .before .before .before .before .before .before .before .before .before .before .before .before .before .before .before .before .before .before .before .before .before in
+    let w = c .before .before .before .before .before .before .before .before .before .before .before .before .before .before .write-replaced in
+    subst (λ (l : List ℕ). ReplacedBytes (a s) (b s) (n s) l (p s) (w .result) (lent (w .last .1 .0) (w .last .1 .1 .0) (w .last .1 .1 .1 .0))) (front (c .before .before .before .before .before .before .before .before .before .before .before .before .before .before .before .before .before .before .before .before .before .before .before .before .before .before .before .before .before .before .before .before .before .before .before .before .before)) (w .ensures)
 
 pub replace-by-spec : {M : Type 1} → statement M
 replace-by-spec =
@@ -202,7 +214,8 @@ replace-by-spec =
     decode-requires
     count-requires-2
     count-requires-3
-    shorter-requires
+    count-requires-4
+    shortest-requires
     slice-reshare-prefix-check-replacement
     slice-aggregate-check-replacement
     check-replacement-requires
@@ -216,11 +229,14 @@ replace-by-spec =
     same-length-2
     same-length-3
     same-length-4
-    returns-2
     same-length-5
+    returns-2
     same-length-6
     same-length-7
     same-length-8
     same-length-9
     same-length-10
+    same-length-11
+    same-length-12
+    same-length-13
     returns-3)

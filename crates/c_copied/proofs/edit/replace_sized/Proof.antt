@@ -9,8 +9,8 @@ use borrow.Author.Needs.{needs}
 use Rattle.c_copied.proofs.edit.replace_sized.Statement.{statement}
 use Rattle.c_copied.proofs.edit.replace_sized.Tie as tie
 
-fits : (s : tie.Start) → Fits (s .args .n) (room (numbersOf (lent (s .args .row .now) (s .args .table .now))))
-fits s = sizes-left (alphabetOf (s .args .arities .now)) (numbersOf (lent (s .args .row .now) (s .args .table .now))) (s .args .n) (s .pre)
+fits : (s : tie.Start) → Fits (s .args .n) (room (numbersOf (lent (s .args .row .now) (s .args .table .now) (s .args .classes .now))))
+fits s = sizes-left (alphabetOf (s .args .arities .now)) (numbersOf (lent (s .args .row .now) (s .args .table .now) (s .args .classes .now))) (s .args .n) (s .pre)
 
 count-requires : tie.Need-count-requires
 count-requires c κs = search needs
@@ -24,20 +24,26 @@ same-length c = search needs
 same-length-2 : tie.Need-same-length-2
 same-length-2 c = search needs
 
+same-length-3 : tie.Need-same-length-3
+same-length-3 c = search needs
+
 returns : tie.Need-returns
 returns c = search needs
 
 add-if2 : tie.Need-add-if2
-add-if2 c = omega (arith, c .if1 .left, fits (c .before .before .before .before .before .before) .most)
+add-if2 c = omega (arith, c .if1 .left, fits (c .before .before .before .before .before .before .before) .most)
 
 replace-long-requires-2 : tie.Need-replace-long-requires-2
 replace-long-requires-2 c κs = search needs
 
-same-length-3 : tie.Need-same-length-3
-same-length-3 c = search needs
-
 same-length-4 : tie.Need-same-length-4
 same-length-4 c = search needs
+
+same-length-5 : tie.Need-same-length-5
+same-length-5 c = search needs
+
+same-length-6 : tie.Need-same-length-6
+same-length-6 c = search needs
 
 returns-2 : tie.Need-returns-2
 returns-2 c = search needs
@@ -54,14 +60,20 @@ short-room-requires-3 c κs = search needs
 short-room-requires-4 : tie.Need-short-room-requires-4
 short-room-requires-4 c κs = search needs
 
+short-room-requires-5 : tie.Need-short-room-requires-5
+short-room-requires-5 c κs = search needs
+
 slice-aggregate-copy-kept : tie.Need-slice-aggregate-copy-kept
 slice-aggregate-copy-kept c = search needs
 
 slice-aggregate-copy-kept-2 : tie.Need-slice-aggregate-copy-kept-2
 slice-aggregate-copy-kept-2 c = search needs
 
+slice-aggregate-copy-kept-3 : tie.Need-slice-aggregate-copy-kept-3
+slice-aggregate-copy-kept-3 c = search needs
+
 copy-kept-requires : tie.Need-copy-kept-requires
-copy-kept-requires c κs = let s = c .before .before .before .before .before .before .before .before .before .before .before .before .before .before .before in (fits s .room, omega (arith, fits s .most, c .before .before .before .before .before .before .before .before .before .before .count .ensures, c .before .before .before .before .before .before .before .before .if2 .left, c .before .before .before .before .before .before .before .short-room .ensures), omega (arith, fits s .most, c .before .before .before .before .before .before .before .before .before .before .count .ensures, c .before .before .before .before .before .before .before .before .if2 .left, c .before .before .before .before .before .before .short-room2 .ensures))
+copy-kept-requires c κs = let s = c .before .before .before .before .before .before .before .before .before .before .before .before .before .before .before .before .before .before .before in (fits s .room, omega (arith, fits s .most, c .before .before .before .before .before .before .before .before .before .before .before .before .before .count .ensures, c .before .before .before .before .before .before .before .before .before .before .before .if2 .left, c .before .before .before .before .before .before .before .before .before .before .short-room .ensures), omega (arith, fits s .most, c .before .before .before .before .before .before .before .before .before .before .before .before .before .count .ensures, c .before .before .before .before .before .before .before .before .before .before .before .if2 .left, c .before .before .before .before .before .before .before .before .before .short-room2 .ensures), omega (arith, fits s .most, c .before .before .before .before .before .before .before .before .before .before .before .before .before .count .ensures, c .before .before .before .before .before .before .before .before .before .before .before .if2 .left, c .before .before .before .before .before .before .before .before .short-room3 .ensures))
 
 slice-aggregate-replace-in : tie.Need-slice-aggregate-replace-in
 slice-aggregate-replace-in c = search needs
@@ -75,27 +87,34 @@ slice-aggregate-replace-in-3 c = search needs
 slice-aggregate-replace-in-4 : tie.Need-slice-aggregate-replace-in-4
 slice-aggregate-replace-in-4 c = search needs
 
+slice-aggregate-replace-in-5 : tie.Need-slice-aggregate-replace-in-5
+slice-aggregate-replace-in-5 c = search needs
+
 replace-in-requires : tie.Need-replace-in-requires
 replace-in-requires c κs =
-    let s = c .before .before .before .before .before .before .before .before .before .before .before .before .before .before .before .before .before .before .before .before .before .before .before .before in
-    let k = c .before .before .before .before .before .before .before .before .copy-kept in (
+    let s = c .before .before .before .before .before .before .before .before .before .before .before .before .before .before .before .before .before .before .before .before .before .before .before .before .before .before .before .before .before .before .before in
+    let k = c .before .before .before .before .before .before .before .before .before .before .before .copy-kept in (
       s .pre,
       (
         k .ensures,
         record {
-          row = omega (arith, c .before .before .before .before .before .before .before .before .before .before .before .before .before .before .before .before .before .before .before .count .ensures, c .before .before .before .before .before .before .before .before .before .before .before .before .before .before .before .before .before .if2 .left, c .before .before .before .before .before .before .before .before .before .before .before .before .before .before .before .before .short-room .ensures, k .kept);
-          table = omega (arith, c .before .before .before .before .before .before .before .before .before .before .before .before .before .before .before .before .before .before .before .count .ensures, c .before .before .before .before .before .before .before .before .before .before .before .before .before .before .before .before .before .if2 .left, c .before .before .before .before .before .before .before .before .before .before .before .before .before .before .before .short-room2 .ensures, k .kept);
-          replacement = omega (arith, c .before .before .before .before .before .before .before .before .before .before .before .before .before .before .before .before .before .before .before .count .ensures, c .before .before .before .before .before .before .before .before .before .before .before .before .before .before .before .before .before .if2 .left, c .before .before .before .before .before .before .before .before .before .before .before .before .before .before .short-room3 .ensures);
-          ends = omega (arith, c .before .before .before .before .before .before .before .before .before .before .before .before .before .before .before .before .before .before .before .count .ensures, c .before .before .before .before .before .before .before .before .before .before .before .before .before .before .before .before .before .if2 .left, c .before .before .before .before .before .before .before .before .before .before .before .before .before .short-room4 .ensures);
+          row = omega (arith, c .before .before .before .before .before .before .before .before .before .before .before .before .before .before .before .before .before .before .before .before .before .before .before .before .before .count .ensures, c .before .before .before .before .before .before .before .before .before .before .before .before .before .before .before .before .before .before .before .before .before .before .before .if2 .left, c .before .before .before .before .before .before .before .before .before .before .before .before .before .before .before .before .before .before .before .before .before .before .short-room .ensures, k .kept);
+          table = omega (arith, c .before .before .before .before .before .before .before .before .before .before .before .before .before .before .before .before .before .before .before .before .before .before .before .before .before .count .ensures, c .before .before .before .before .before .before .before .before .before .before .before .before .before .before .before .before .before .before .before .before .before .before .before .if2 .left, c .before .before .before .before .before .before .before .before .before .before .before .before .before .before .before .before .before .before .before .before .before .short-room2 .ensures, k .kept);
+          classes = omega (arith, c .before .before .before .before .before .before .before .before .before .before .before .before .before .before .before .before .before .before .before .before .before .before .before .before .before .count .ensures, c .before .before .before .before .before .before .before .before .before .before .before .before .before .before .before .before .before .before .before .before .before .before .before .if2 .left, c .before .before .before .before .before .before .before .before .before .before .before .before .before .before .before .before .before .before .before .before .short-room3 .ensures, k .kept);
+          replacement = omega (arith, c .before .before .before .before .before .before .before .before .before .before .before .before .before .before .before .before .before .before .before .before .before .before .before .before .before .count .ensures, c .before .before .before .before .before .before .before .before .before .before .before .before .before .before .before .before .before .before .before .before .before .before .before .if2 .left, c .before .before .before .before .before .before .before .before .before .before .before .before .before .before .before .before .before .before .before .short-room4 .ensures);
+          ends = omega (arith, c .before .before .before .before .before .before .before .before .before .before .before .before .before .before .before .before .before .before .before .before .before .before .before .before .before .count .ensures, c .before .before .before .before .before .before .before .before .before .before .before .before .before .before .before .before .before .before .before .before .before .before .before .if2 .left, c .before .before .before .before .before .before .before .before .before .before .before .before .before .before .before .before .before .before .short-room5 .ensures);
         },
       ),
     )
 
-same-length-5 : tie.Need-same-length-5
-same-length-5 c = search needs
+same-length-7 : tie.Need-same-length-7
+same-length-7 c = search needs
 
-same-length-6 : tie.Need-same-length-6
-same-length-6 c = search needs
+same-length-8 : tie.Need-same-length-8
+same-length-8 c = search needs
+
+same-length-9 : tie.Need-same-length-9
+same-length-9 c = search needs
 
 returns-3 : tie.Need-returns-3
 returns-3 c = search needs
@@ -108,24 +127,30 @@ replace-sized-spec =
     replace-long-requires
     same-length
     same-length-2
+    same-length-3
     returns
     add-if2
     replace-long-requires-2
-    same-length-3
     same-length-4
+    same-length-5
+    same-length-6
     returns-2
     short-room-requires
     short-room-requires-2
     short-room-requires-3
     short-room-requires-4
+    short-room-requires-5
     slice-aggregate-copy-kept
     slice-aggregate-copy-kept-2
+    slice-aggregate-copy-kept-3
     copy-kept-requires
     slice-aggregate-replace-in
     slice-aggregate-replace-in-2
     slice-aggregate-replace-in-3
     slice-aggregate-replace-in-4
+    slice-aggregate-replace-in-5
     replace-in-requires
-    same-length-5
-    same-length-6
+    same-length-7
+    same-length-8
+    same-length-9
     returns-3)

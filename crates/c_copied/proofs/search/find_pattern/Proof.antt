@@ -28,13 +28,13 @@ use Rattle.c_copied.proofs.search.find_pattern.Tie as tie
 -- what the call is lent
 module _ (c : tie.After-count) where
   abbrev start : tie.Start
-  start = c .before .before .before .before .before .before .before .before
+  start = c .before .before .before .before .before .before .before .before .before
 
   abbrev a : Alphabet
   a = alphabetOf (start .args .arities .now)
 
   abbrev P : Programme
-  P = programme (start .args .row .now) (start .args .table .now)
+  P = programme (start .args .row .now) (start .args .table .now) (start .args .classes .now)
 
   abbrev q : List ℕ
   q = numbers (start .args .pattern .now)
@@ -42,7 +42,7 @@ module _ (c : tie.After-count) where
   small : Bytes (start .args .out .now)
   small i = c .before .slice-known3 .given i .fits
 
-  -- row and table are right, so the pattern decides
+  -- row, table and classes are right, so the pattern decides
   decided : (r : Check) → pattern (a .arities) q ≡ r → searchCheck a P q ≡ r
   unfolding searchCheck
   decided r e = ap (λ (g : Check). g then pattern (a .arities) q) (start .pre .0) ∙ e
@@ -52,7 +52,7 @@ front : (c : tie.After-decode) → take (c .before .before .before .count .resul
 front c =
     let k = c .before .before .before .count in
     ap (take (k .result)) (c .decode .ensures)
-    ∙ front-read (q (c .before .before .before)) (c .before .before .before .before .before .before .before .before .before .before .before .args .q .now) (k .result) (omega (arith, k .ensures))
+    ∙ front-read (q (c .before .before .before)) (c .before .before .before .before .before .before .before .before .before .before .before .before .args .q .now) (k .result) (omega (arith, k .ensures))
     ∙ ap (λ (n : ℕ). take n (q (c .before .before .before))) (k .ensures)
     ∙ take-length (q (c .before .before .before))
 
@@ -132,7 +132,7 @@ returns-3 c =
     let w = c .before .before .before .before .write-found in
     let same = front (c .before .before .before .before .before .before .before .before .before .before .before .before .before .before) in
     let fine = checked (c .before .before .before .before .before .before .before .before .before .before) Fine (c .before .before .before .before .before .before .before .before .enum-told .given .1) in
-    subst (λ (l : List ℕ). FoundBytes (a k) (P k) l (start k .args .out .now) (w .result) (w .last .1 .1 .1 .1 .0)) same
+    subst (λ (l : List ℕ). FoundBytes (a k) (P k) l (start k .args .out .now) (w .result) (w .last .1 .1 .1 .1 .1 .0)) same
     (w .ensures (a k) (ap (searchCheck (a k) (P k)) same ∙ fine))
 
 pub find-pattern-spec : {M : Type 1} → statement M

@@ -15,7 +15,7 @@ use Rattle.c_copied.proofs.search.find_sized.Tie as tie
 
 module _ (s : tie.Start) where
   abbrev P : Programme
-  P = numbersOf (lent (s .args .row .now) (s .args .table .now))
+  P = numbersOf (lent (s .args .row .now) (s .args .table .now) (s .args .classes .now))
 
   fits : Fits (length (P .row)) (room P)
   fits = sizes-left (alphabetOf (s .args .arities .now)) P (length (P .row)) (s .pre)
@@ -50,11 +50,14 @@ short-room-requires c κs = search needs
 short-room-requires-2 : tie.Need-short-room-requires-2
 short-room-requires-2 c κs = search needs
 
+short-room-requires-3 : tie.Need-short-room-requires-3
+short-room-requires-3 c κs = search needs
+
 pattern-room-requires : tie.Need-pattern-room-requires
 pattern-room-requires c κs = search needs
 
-short-room-requires-3 : tie.Need-short-room-requires-3
-short-room-requires-3 c κs = search needs
+short-room-requires-4 : tie.Need-short-room-requires-4
+short-room-requires-4 c κs = search needs
 
 count-requires-3 : tie.Need-count-requires-3
 count-requires-3 c κs = search needs
@@ -65,8 +68,11 @@ slice-aggregate-copy-kept c = search needs
 slice-aggregate-copy-kept-2 : tie.Need-slice-aggregate-copy-kept-2
 slice-aggregate-copy-kept-2 c = search needs
 
+slice-aggregate-copy-kept-3 : tie.Need-slice-aggregate-copy-kept-3
+slice-aggregate-copy-kept-3 c = search needs
+
 copy-kept-requires : tie.Need-copy-kept-requires
-copy-kept-requires c κs = let s = c .before .before .before .before .before .before .before .before .before .before .before .before .before .before .before .before in let n = c .before .before .count3 .ensures in (omega (arith, n, fits s .room), omega (arith, n, fits s .most, c .before .before .before .before .before .before .before .before .count2 .ensures, c .before .before .before .before .before .before .before .if2 .left, c .before .before .before .before .before .before .short-room .ensures), omega (arith, n, fits s .most, c .before .before .before .before .before .before .before .before .count2 .ensures, c .before .before .before .before .before .before .before .if2 .left, c .before .before .before .before .before .short-room2 .ensures))
+copy-kept-requires c κs = let s = c .before .before .before .before .before .before .before .before .before .before .before .before .before .before .before .before .before .before .before in let n = c .before .before .before .count3 .ensures in (omega (arith, n, fits s .room), omega (arith, n, fits s .most, c .before .before .before .before .before .before .before .before .before .before .count2 .ensures, c .before .before .before .before .before .before .before .before .before .if2 .left, c .before .before .before .before .before .before .before .before .short-room .ensures), omega (arith, n, fits s .most, c .before .before .before .before .before .before .before .before .before .before .count2 .ensures, c .before .before .before .before .before .before .before .before .before .if2 .left, c .before .before .before .before .before .before .before .short-room2 .ensures), omega (arith, n, fits s .most, c .before .before .before .before .before .before .before .before .before .before .count2 .ensures, c .before .before .before .before .before .before .before .before .before .if2 .left, c .before .before .before .before .before .before .short-room3 .ensures))
 
 slice-aggregate-find-in : tie.Need-slice-aggregate-find-in
 slice-aggregate-find-in c = search needs
@@ -80,12 +86,15 @@ slice-aggregate-find-in-3 c = search needs
 slice-aggregate-find-in-4 : tie.Need-slice-aggregate-find-in-4
 slice-aggregate-find-in-4 c = search needs
 
+slice-aggregate-find-in-5 : tie.Need-slice-aggregate-find-in-5
+slice-aggregate-find-in-5 c = search needs
+
 find-in-requires : tie.Need-find-in-requires
 find-in-requires c κs =
-    let s = c .before .before .before .before .before .before .before .before .before .before .before .before .before .before .before .before .before .before .before .before .before .before .before .before in
-    let n = c .before .before .before .before .before .before .before .before .before .before .count3 .ensures in
-    let k = c .before .before .before .before .before .before .before .copy-kept in
-    (s .pre, (subst (λ (i : ℕ). Copied (P s) i (k .last .1 .1 .1 .0) (k .last .1 .1 .1 .1 .0)) n (k .ensures), omega (arith, n, fits s .most, c .before .before .before .before .before .before .before .before .before .before .before .before .before .before .before .before .count2 .ensures, c .before .before .before .before .before .before .before .before .before .before .before .before .before .before .before .if2 .left, c .before .before .before .before .before .before .before .before .before .before .before .short-room3 .ensures), omega (arith, c .before .before .before .before .before .before .before .before .before .before .before .before .pattern-room .ensures)))
+    let s = c .before .before .before .before .before .before .before .before .before .before .before .before .before .before .before .before .before .before .before .before .before .before .before .before .before .before .before .before .before in
+    let n = c .before .before .before .before .before .before .before .before .before .before .before .before .before .count3 .ensures in
+    let k = c .before .before .before .before .before .before .before .before .before .copy-kept in
+    (s .pre, (subst (λ (i : ℕ). Copied (P s) i (k .last .1 .1 .1 .1 .0) (k .last .1 .1 .1 .1 .1 .0) (k .last .1 .1 .1 .1 .1 .1 .0)) n (k .ensures), omega (arith, n, fits s .most, c .before .before .before .before .before .before .before .before .before .before .before .before .before .before .before .before .before .before .before .before .count2 .ensures, c .before .before .before .before .before .before .before .before .before .before .before .before .before .before .before .before .before .before .before .if2 .left, c .before .before .before .before .before .before .before .before .before .before .before .before .before .before .short-room4 .ensures), omega (arith, c .before .before .before .before .before .before .before .before .before .before .before .before .before .before .before .pattern-room .ensures)))
 
 same-length-3 : tie.Need-same-length-3
 same-length-3 c = search needs
@@ -107,16 +116,19 @@ find-sized-spec =
     returns-2
     short-room-requires
     short-room-requires-2
-    pattern-room-requires
     short-room-requires-3
+    pattern-room-requires
+    short-room-requires-4
     count-requires-3
     slice-aggregate-copy-kept
     slice-aggregate-copy-kept-2
+    slice-aggregate-copy-kept-3
     copy-kept-requires
     slice-aggregate-find-in
     slice-aggregate-find-in-2
     slice-aggregate-find-in-3
     slice-aggregate-find-in-4
+    slice-aggregate-find-in-5
     find-in-requires
     same-length-3
     returns-3)

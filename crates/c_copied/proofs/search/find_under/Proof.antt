@@ -24,27 +24,27 @@ use Rattle.c_copied.proofs.search.find_under.Tie as tie
 -- what the call is lent, and the check of the sizes
 module _ (c : tie.After-read-sizes) where
   abbrev start : tie.Start
-  start = c .before .before .before .before .before .before .before .before .before .before .before .before
+  start = c .before .before .before .before .before .before .before .before .before .before .before .before .before .before
 
   abbrev A : List ℕ
   A = numbers (start .args .arities .now)
 
   abbrev P : Programme
-  P = numbersOf (lent (start .args .row .now) (start .args .table .now))
+  P = numbersOf (lent (start .args .row .now) (start .args .table .now) (start .args .classes .now))
 
   abbrev q : List ℕ
   q = numbers (start .args .pattern .now)
 
   sized : (r : Check) → c .read-sizes .result ≡ r → sizesCheck (alphabetOf A) (length (P .row)) (room P) ≡ r
   sized r e =
-      let n = c .before .before .before .before .count2 .ensures in
-      ap₂ (sizesCheck (alphabetOf A)) (sym n) (sym (c .before .before .shorter .ensures ∙ ap₂ min n (c .before .before .before .count3 .ensures)))
+      let n = c .before .before .before .before .before .count2 .ensures in
+      ap₂ (sizesCheck (alphabetOf A)) (sym n) (sym (c .before .before .shortest .ensures ∙ ap₂ min n (ap₂ min (c .before .before .before .before .count3 .ensures) (c .before .before .before .count4 .ensures))))
       ∙ sym (c .read-sizes .ensures .answer)
       ∙ e
 
   -- the alphabet that was read
-  front : c .read-sizes .result ≡ Fine → take (c .before .before .before .before .before .count .result) (c .read-sizes .last .1 .0) ≡ A
-  front e = ap (λ (k : ℕ). take k (c .read-sizes .last .1 .0)) (c .before .before .before .before .before .count .ensures) ∙ c .read-sizes .ensures .front e
+  front : c .read-sizes .result ≡ Fine → take (c .before .before .before .before .before .before .count .result) (c .read-sizes .last .1 .0) ≡ A
+  front e = ap (λ (k : ℕ). take k (c .read-sizes .last .1 .0)) (c .before .before .before .before .before .before .count .ensures) ∙ c .read-sizes .ensures .front e
 
 count-requires : tie.Need-count-requires
 count-requires c κs = search needs
@@ -55,8 +55,11 @@ count-requires-2 c κs = search needs
 count-requires-3 : tie.Need-count-requires-3
 count-requires-3 c κs = search needs
 
-shorter-requires : tie.Need-shorter-requires
-shorter-requires c κs = search needs
+count-requires-4 : tie.Need-count-requires-4
+count-requires-4 c κs = search needs
+
+shortest-requires : tie.Need-shortest-requires
+shortest-requires c κs = search needs
 
 read-sizes-requires : tie.Need-read-sizes-requires
 read-sizes-requires c κs = search needs
@@ -71,7 +74,7 @@ enum-told : tie.Need-enum-told
 enum-told c = search needs
 
 slice-reshare-prefix-find-sized : tie.Need-slice-reshare-prefix-find-sized
-slice-reshare-prefix-find-sized c = omega (arith, c .before .before .before .before .read-sizes .ensures .few (c .enum-told .given .1), c .before .before .before .before .before .before .before .before .before .count .ensures, c .before .before .before .before .before .before .before .before .before .before .before .before .before .before .before .before .pre, c .before .before .before .before .read-sizes .kept)
+slice-reshare-prefix-find-sized c = omega (arith, c .before .before .before .before .read-sizes .ensures .few (c .enum-told .given .1), c .before .before .before .before .before .before .before .before .before .before .count .ensures, c .before .before .before .before .before .before .before .before .before .before .before .before .before .before .before .before .before .before .pre, c .before .before .before .before .read-sizes .kept)
 
 slice-aggregate-find-sized : tie.Need-slice-aggregate-find-sized
 slice-aggregate-find-sized c = sym (length-take-le _ _ (slice-reshare-prefix-find-sized (c .before)))
@@ -90,7 +93,7 @@ unfolding searchCheck
 returns c =
     let k = c .before .before .before .before .before .before in
     let r = c .before .before .r .given .0 .0 in
-    found-refused (alphabetOf (A k)) (P k) (q k) (start k .args .out .now) (λ i. c .before .before .before .before .before .before .before .before .before .before .before .before .before .slice-known .given i .fits) (c .refusal-of .result) r
+    found-refused (alphabetOf (A k)) (P k) (q k) (start k .args .out .now) (λ i. c .before .before .before .before .before .before .before .before .before .before .before .before .before .before .slice-known .given i .fits) (c .refusal-of .result) r
     (ap (λ (g : Check). g then pattern (A k) (q k)) (given-goes-on (alphabetOf (A k)) (P k) (length (P k .row)) (Refused r) (sized k (Refused r) (c .before .before .r .given .1))))
     (c .refusal-of .ensures)
 
@@ -104,7 +107,7 @@ returns-2 : tie.Need-returns-2
 returns-2 c =
     let k = c .before .before .before .before .before .before .before .before .before in
     let f = c .before .before .find-sized in
-    subst (λ (l : List ℕ). FoundBytes (alphabetOf l) (P k) (q k) (start k .args .out .now) (f .result) (f .last .1 .1 .1 .1 .0)) (front k (c .before .before .before .before .before .enum-told .given .1)) (f .ensures)
+    subst (λ (l : List ℕ). FoundBytes (alphabetOf l) (P k) (q k) (start k .args .out .now) (f .result) (f .last .1 .1 .1 .1 .1 .0)) (front k (c .before .before .before .before .before .enum-told .given .1)) (f .ensures)
 
 pub find-under-spec : {M : Type 1} → statement M
 find-under-spec =
@@ -113,7 +116,8 @@ find-under-spec =
     count-requires
     count-requires-2
     count-requires-3
-    shorter-requires
+    count-requires-4
+    shortest-requires
     read-sizes-requires
     enum-known-r
     refusal-of-requires

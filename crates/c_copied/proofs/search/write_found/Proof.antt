@@ -16,10 +16,10 @@ use Rattle.c_copied.proofs.search.write_found.Tie as tie
 -- what is searched, and the output's bytes
 module _ (c : tie.After-write-matches) where
   abbrev start : tie.Start
-  start = c .before .before .before .before .before .before .before
+  start = c .before .before .before .before .before .before .before .before
 
   abbrev P : Programme
-  P = programme (start .args .row .now) (start .args .table .now)
+  P = programme (start .args .row .now) (start .args .table .now) (start .args .classes .now)
 
   small : Bytes (start .args .out .now)
   small i = c .before .before .slice-known2 .given i .fits
@@ -48,7 +48,7 @@ returns c a e =
     let w = c .before .before .before .before .before .before in
     let s = start w in
     let n = w .write-matches in
-    found-short a (P w) (s .args .pattern .now) (s .args .out .now) (small w) e (s .args .room .now) (n .last .1 .1 .1 .0) (n .result)
+    found-short a (P w) (s .args .pattern .now) (s .args .out .now) (small w) e (s .args .room .now) (n .last .1 .1 .1 .1 .0) (n .result)
     (n .ensures a (search-checked a (P w) (s .args .pattern .now) e)) (omega (arith, c .before .if1 .taken, c .before .before .count .ensures)) (c .refusal-of .result) (c .refusal-of .ensures)
 
 slice-reshare-prefix-encode : tie.Need-slice-reshare-prefix-encode
@@ -72,7 +72,7 @@ returns-2 c a e =
     let s = start w in
     let n = w .write-matches in
     let o = c .before .before .encode in
-    found-all a (P w) (s .args .pattern .now) (s .args .out .now) (small w) e (s .args .room .now) (n .last .1 .1 .1 .0) (n .result)
+    found-all a (P w) (s .args .pattern .now) (s .args .out .now) (small w) e (s .args .room .now) (n .last .1 .1 .1 .1 .0) (n .result)
     (n .ensures a (search-checked a (P w) (s .args .pattern .now) e)) (omega (arith, c .before .before .before .before .before .if1 .left, c .before .before .before .before .before .before .count .ensures)) (o .last .1 .0) (o .ensures)
 
 pub write-found-spec : {M : Type 1} → statement M

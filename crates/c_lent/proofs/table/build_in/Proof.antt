@@ -24,24 +24,25 @@ use Rattle.c_lent.proofs.table.build_in.Tie as tie
 -- what the call is lent, and the check of the sizes
 module _ (c : tie.After-read-sizes) where
   abbrev start : tie.Start
-  start = c .before .before .before .before .before .before .before .before .before .before .before
+  start = c .before .before .before .before .before .before .before .before .before .before .before .before .before .before
 
   abbrev A : List ℕ
   A = numbers (start .args .arities .now)
 
   abbrev b : Lent
-  b = lent (start .args .row .now) (start .args .table .now)
+  b = lent (start .args .row .now) (start .args .table .now) (start .args .classes .now)
 
   sized : (r : Check) → c .read-sizes .result ≡ r → sizesCheck (alphabetOf A) (length (numbersOf b .row)) (room (numbersOf b)) ≡ r
   sized r e =
-      let n = c .before .before .before .before .before .count2 .ensures in
-      ap₂ (sizesCheck (alphabetOf A)) (sym n) (sym (c .before .before .shorter .ensures ∙ ap₂ min n (c .before .before .before .count3 .ensures)))
+      let n = c .before .before .before .before .before .before .before .count2 .ensures in
+      let beside = ap₂ min (c .before .before .before .before .before .count3 .ensures) (c .before .before .before .count4 .ensures) in
+      ap₂ (sizesCheck (alphabetOf A)) (sym n) (sym (c .before .before .shortest .ensures ∙ ap₂ min n beside))
       ∙ sym (c .read-sizes .ensures .answer)
       ∙ e
 
   -- the alphabet that was read
-  front : c .read-sizes .result ≡ Fine → take (c .before .before .before .before .before .before .count .result) (c .read-sizes .last .1 .0) ≡ A
-  front e = ap (λ (k : ℕ). take k (c .read-sizes .last .1 .0)) (c .before .before .before .before .before .before .count .ensures) ∙ c .read-sizes .ensures .front e
+  front : c .read-sizes .result ≡ Fine → take (c .before .before .before .before .before .before .before .before .count .result) (c .read-sizes .last .1 .0) ≡ A
+  front e = ap (λ (k : ℕ). take k (c .read-sizes .last .1 .0)) (c .before .before .before .before .before .before .before .before .count .ensures) ∙ c .read-sizes .ensures .front e
 
 count-requires : tie.Need-count-requires
 count-requires c κs = search needs
@@ -52,8 +53,11 @@ count-requires-2 c κs = search needs
 count-requires-3 : tie.Need-count-requires-3
 count-requires-3 c κs = search needs
 
-shorter-requires : tie.Need-shorter-requires
-shorter-requires c κs = search needs
+count-requires-4 : tie.Need-count-requires-4
+count-requires-4 c κs = search needs
+
+shortest-requires : tie.Need-shortest-requires
+shortest-requires c κs = search needs
 
 read-sizes-requires : tie.Need-read-sizes-requires
 read-sizes-requires c κs = search needs
@@ -68,15 +72,17 @@ enum-told : tie.Need-enum-told
 enum-told c = search needs
 
 slice-reshare-prefix-build-under : tie.Need-slice-reshare-prefix-build-under
-slice-reshare-prefix-build-under c = omega (arith, c .before .before .before .before .read-sizes .ensures .few (c .enum-told .given .1), c .before .before .before .before .before .before .before .before .before .before .count .ensures, c .before .before .before .before .before .before .before .before .before .before .before .before .before .before .before .pre, c .before .before .before .before .read-sizes .kept)
+slice-reshare-prefix-build-under c =
+    let k = c .before .before .before .before in
+    omega (arith, k .read-sizes .ensures .few (c .enum-told .given .1), c .before .before .before .before .before .before .before .before .before .before .before .before .count .ensures, start k .pre, k .read-sizes .kept)
 
 slice-aggregate-build-under : tie.Need-slice-aggregate-build-under
 slice-aggregate-build-under c = sym (length-take-le _ _ (slice-reshare-prefix-build-under (c .before)))
 
 build-under-requires : tie.Need-build-under-requires
 build-under-requires c κs =
-    let k = c .before .before .before .before .before .before in
-    let e = c .before .before .enum-told .given .1 in
+    let k = c .before .before .before .before .before .before .before in
+    let e = c .before .before .before .enum-told .given .1 in
     subst (λ (l : List ℕ). sizesCheck (alphabetOf l) (length (numbersOf (b k) .row)) (room (numbersOf (b k))) ≡ Fine) (sym (front k e)) (sized k Fine e)
 
 same-length : tie.Need-same-length
@@ -84,6 +90,9 @@ same-length c = search needs
 
 same-length-2 : tie.Need-same-length-2
 same-length-2 c = search needs
+
+same-length-3 : tie.Need-same-length-3
+same-length-3 c = search needs
 
 returns : tie.Need-returns
 returns c =
@@ -95,20 +104,23 @@ returns c =
       left = numbersOf (b k);
       call = record { answer = sym e; lists = sym (ap (λ (x : Check). after x (built (alphabetOf (A k)) (numbersOf (b k))) (numbersOf (b k))) e) };
       answer = c .refusal-of .ensures;
-      bytes = sym (beside-same (b k) (λ i. c .before .before .before .before .before .before .before .before .before .before .before .before .before .before .slice-known .given i .fits));
+      bytes = sym (beside-same (b k) (λ i. c .before .before .before .before .before .before .before .before .before .before .before .before .before .before .before .before .before .slice-known .given i .fits) (λ i. c .before .before .before .before .before .before .before .before .before .before .before .before .before .before .before .before .slice-known2 .given i .fits));
     }
-
-same-length-3 : tie.Need-same-length-3
-same-length-3 c = search needs
 
 same-length-4 : tie.Need-same-length-4
 same-length-4 c = search needs
 
+same-length-5 : tie.Need-same-length-5
+same-length-5 c = search needs
+
+same-length-6 : tie.Need-same-length-6
+same-length-6 c = search needs
+
 returns-2 : tie.Need-returns-2
 returns-2 c =
-    let k = c .before .before .before .before .before .before .before .before .before in
-    let u = c .before .before .build-under in
-    subst (λ (l : List ℕ). BuiltBytes (alphabetOf l) (b k) (u .result) (lent (b k .row) (u .last .1 .1 .0))) (front k (c .before .before .before .before .before .enum-told .given .1)) (u .ensures)
+    let k = c .before .before .before .before .before .before .before .before .before .before .before .before in
+    let u = c .before .before .before .before .build-under in
+    subst (λ (l : List ℕ). BuiltBytes (alphabetOf l) (b k) (u .result) (lent (b k .row) (u .last .1 .1 .0) (u .last .1 .1 .1 .0))) (front k (c .before .before .before .before .before .before .before .before .enum-told .given .1)) (u .ensures)
 
 pub build-in-spec : {M : Type 1} → statement M
 build-in-spec =
@@ -117,7 +129,8 @@ build-in-spec =
     count-requires
     count-requires-2
     count-requires-3
-    shorter-requires
+    count-requires-4
+    shortest-requires
     read-sizes-requires
     enum-known-r
     refusal-of-requires
@@ -127,7 +140,9 @@ build-in-spec =
     build-under-requires
     same-length
     same-length-2
-    returns
     same-length-3
+    returns
     same-length-4
+    same-length-5
+    same-length-6
     returns-2)

@@ -1,21 +1,30 @@
--- `c_lent::build_under` meets its contract. The table is filled where nothing is refused; a refusal leaves its bytes, which are those of its numbers.
+-- `c_lent::build_under` meets its contract. Table and classes are filled where nothing is refused; a refusal leaves their bytes, which are those
+-- of their numbers.
 -- Assumes nothing.
 use Prim.Native.Nat.{ℕ, _≤_}
-use mathlib.Core.Path.{_≡_, sym, ap, _∙_}
+use mathlib.Core.Path.{_≡_, refl, sym, ap, _∙_}
+use mathlib.Core.List.{List}
+use native.Mathlib.Omega.{arith}
 use lib.IntN.{pos}
 use lib.ListN.{length}
 use Rattle.rows.specs.Limits.{rowMost}
 use Rattle.rows.specs.Programme.{Alphabet, Programme, alphabetOf}
-use Rattle.rows.specs.Buffers.{after}
 use Rattle.rows.specs.declared.Check.{Check}
 use Rattle.rows.specs.declared.Check.the-variants.{Fine, Refused}
 use Rattle.checks.specs.Checks.{buildCheck}
-use Rattle.checks.proofs.Building.{build-fillable}
+use Rattle.tables.specs.Given.{Right}
+use Rattle.checks.proofs.Building.{build-fillable, build-classes, filled-right}
 use Rattle.sparrowhem.specs.Build.{built}
 use Rattle.c_lent.specs.Answer.{granted}
 use Rattle.c_lent.specs.Lent.{Lent, lent, numbersOf}
 use Rattle.c_lent.proofs.Checks.{build-after, build-most}
-use Rattle.c_lent.proofs.Lists.{beside-same}
+use Rattle.rows.specs.Parse.{table as tableOf}
+use Rattle.rows.specs.Buffers.{written, after}
+use Rattle.rows.proofs.Buffers.{length-written}
+use Rattle.rows.proofs.Entry.{length-table}
+use Rattle.wire.specs.Wire.{numbers}
+use Rattle.wire.proofs.Promises.{odd-byte-stays}
+use Rattle.c_lent.proofs.Lists.{same-lent, beside-same}
 use borrow.Author.Needs.{needs}
 use Rattle.c_lent.proofs.table.build_under.Statement.{statement}
 use Rattle.c_lent.proofs.table.build_under.Tie as tie
@@ -23,13 +32,13 @@ use Rattle.c_lent.proofs.table.build_under.Tie as tie
 -- what the call is lent, and the check on the numbers
 module _ (c : tie.After-check-symbols) where
   abbrev start : tie.Start
-  start = c .before .before .before .before
+  start = c .before .before .before .before .before
 
   abbrev a : Alphabet
   a = alphabetOf (start .args .arities .now)
 
   abbrev b : Lent
-  b = lent (start .args .row .now) (start .args .table .now)
+  b = lent (start .args .row .now) (start .args .table .now) (start .args .classes .now)
 
   checked : (r : Check) → c .check-symbols .result ≡ r → buildCheck a (numbersOf b) ≡ r
   checked r e = build-after a (numbersOf b) (start .pre) ∙ sym (c .check-symbols .ensures) ∙ e
@@ -38,8 +47,31 @@ module _ (c : tie.After-check-symbols) where
   abbrev left : Check → Programme
   left r = after r (built a (numbersOf b)) (numbersOf b)
 
+-- the table is filled in, and its numbers are right
+module _ (c : tie.After-fill-table) where
+  abbrev checks : tie.After-check-symbols
+  checks = c .before .before .before .before
+
+  fine : buildCheck (a checks) (numbersOf (b checks)) ≡ Fine
+  fine = checked checks Fine (c .before .before .enum-told .given .1)
+
+  abbrev filled : List ℕ
+  filled = c .fill-table .last .1 .1 .0
+
+  right : Right (a checks .arities) (numbers (b checks .row)) (numbers filled)
+  unfolding tableOf
+  right =
+      let A : List ℕ = a checks .arities in
+      let w : List ℕ = numbers (b checks .row) in
+      let t : List ℕ = numbers (b checks .table) in
+      let f = build-fillable (a checks) (numbersOf (b checks)) fine in
+      let long : length (written t 0 (tableOf A w)) ≡ length t = length-written t 0 (tableOf A w) (omega (arith, length-table A w, f .fits)) in
+      filled-right A w t (numbers filled) f (ap numbers (c .fill-table .ensures) ∙ odd-byte-stays (b checks .table) (written t 0 (tableOf A w)) long .0)
+
 check-symbols-requires : tie.Need-check-symbols-requires
-check-symbols-requires c κs = let s = c .before .before .before in build-most (alphabetOf (s .args .arities .now)) (numbersOf (lent (s .args .row .now) (s .args .table .now))) (s .pre)
+check-symbols-requires c κs =
+    let s = c .before .before .before .before in
+    build-most (alphabetOf (s .args .arities .now)) (numbersOf (lent (s .args .row .now) (s .args .table .now) (s .args .classes .now))) (s .pre)
 
 enum-known-r : tie.Need-enum-known-r
 enum-known-r c = search needs
@@ -55,6 +87,11 @@ fill-table-requires c κs =
     let k = c .before .before .before in
     build-fillable (a k) (numbersOf (b k)) (checked k Fine (c .before .enum-told .given .1))
 
+fill-classes-requires : tie.Need-fill-classes-requires
+fill-classes-requires c κs =
+    let f = c .before .before .before .before in let k = checks f in
+    ((a k .arities, right f), build-classes (a k) (numbersOf (b k)) (fine f))
+
 count-requires : tie.Need-count-requires
 count-requires c κs = search needs
 
@@ -68,22 +105,24 @@ returns c =
       left = numbersOf (b k);
       call = record { answer = sym e; lists = sym (ap (left k) e) };
       answer = c .refusal-of .ensures;
-      bytes = sym (beside-same (b k) (λ i. c .before .before .before .before .before .slice-known .given i .fits));
+      bytes = sym (beside-same (b k) (λ i. c .before .before .before .before .before .before .slice-known .given i .fits) (λ i. c .before .before .before .before .before .slice-known2 .given i .fits));
     }
 
 same-length : tie.Need-same-length
 same-length c = search needs
 
+same-length-2 : tie.Need-same-length-2
+same-length-2 c = search needs
+
 returns-2 : tie.Need-returns-2
 returns-2 c =
-    let k = c .before .before .before .before .before .before .before in
-    let e = checked k Fine (c .before .before .before .before .before .enum-told .given .1) in
+    let f = c .before .before .before .before .before .before .before .before in let k = checks f in
     record {
       outcome = Fine;
       left = built (a k) (numbersOf (b k));
-      call = record { answer = sym e; lists = sym (ap (left k) e) };
+      call = record { answer = sym (fine f); lists = sym (ap (left k) (fine f)) };
       answer = ap (λ (n : ℕ). granted n (pos 0)) (c .count .ensures);
-      bytes = ap (lent (b k .row)) (c .before .before .before .fill-table .ensures);
+      bytes = same-lent refl (f .fill-table .ensures) (c .before .before .before .fill-classes .ensures (a k .arities) (right f));
     }
 
 pub build-under-spec : {M : Type 1} → statement M
@@ -95,7 +134,9 @@ build-under-spec =
     refusal-of-requires
     enum-told
     fill-table-requires
+    fill-classes-requires
     count-requires
     returns
     same-length
+    same-length-2
     returns-2)

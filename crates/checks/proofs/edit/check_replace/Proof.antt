@@ -19,17 +19,17 @@ abbrev a : tie.Start → Alphabet
 a s = alphabetOf (s .args .arities .now)
 
 abbrev P : tie.Start → Programme
-P s = programme (s .args .row .now) (s .args .table .now)
+P s = programme (s .args .row .now) (s .args .table .now) (s .args .classes .now)
 
 abbrev v : tie.Start → List ℕ
 v s = s .args .replacement .now
 
 -- once the first check is through
-is-given : (c : tie.After-enum-told) → given (a (c .before .before .before .before .before .before .before)) (P (c .before .before .before .before .before .before .before)) (c .before .before .before .before .before .before .before .args .n) ≡ Fine
+is-given : (c : tie.After-enum-told) → given (a (c .before .before .before .before .before .before .before .before)) (P (c .before .before .before .before .before .before .before .before)) (c .before .before .before .before .before .before .before .before .args .n) ≡ Fine
 is-given c = sym (c .before .before .check-given .ensures) ∙ c .enum-told .given .1
 
-held : (c : tie.After-enum-told) → Held (a (c .before .before .before .before .before .before .before)) (P (c .before .before .before .before .before .before .before)) (c .before .before .before .before .before .before .before .args .n)
-held c = given-held (a (c .before .before .before .before .before .before .before)) (P (c .before .before .before .before .before .before .before)) (c .before .before .before .before .before .before .before .args .n) (is-given c)
+held : (c : tie.After-enum-told) → Held (a (c .before .before .before .before .before .before .before .before)) (P (c .before .before .before .before .before .before .before .before)) (c .before .before .before .before .before .before .before .before .args .n)
+held c = given-held (a (c .before .before .before .before .before .before .before .before)) (P (c .before .before .before .before .before .before .before .before)) (c .before .before .before .before .before .before .before .before .args .n) (is-given c)
 
 check-given-requires : tie.Need-check-given-requires
 check-given-requires c κs = search needs
@@ -44,12 +44,12 @@ returns : tie.Need-returns
 unfolding replaceCheck
 returns c = simp (c .enum-told2 .given .1, sym (c .before .before .check-given .ensures) ∙ c .enum-told2 .given .1)
 
-shorter-requires : tie.Need-shorter-requires
-shorter-requires c κs = search needs
+shortest-requires : tie.Need-shortest-requires
+shortest-requires c κs = search needs
 
 check-replacement-requires : tie.Need-check-replacement-requires
 check-replacement-requires c κs =
-    let s = c .before .before .before .before .before .before .before .before in
+    let s = c .before .before .before .before .before .before .before .before .before in
     let h = held (c .before) in
     (h .most, search (needs, h .fits), held-end (a s) (P s) (s .args .n) (s .args .position) h)
 
@@ -57,12 +57,12 @@ returns-2 : tie.Need-returns-2
 unfolding replaceCheck
 returns-2 c =
     let t = c .before .before in
-    let s = c .before .before .before .before .before .before .before .before .before in
+    let s = c .before .before .before .before .before .before .before .before .before .before in
     let n : ℕ = s .args .n in
     let p : ℕ = s .args .position in
     simp (is-given t)
     (c .check-replacement .ensures
-    ∙ ap (λ (places : ℕ). replacement (a s .arities) (v s) then position n p then grown (p + length (v s) + (n - getD (P s .table) p 0)) places) (c .before .shorter .ensures)
+    ∙ ap (λ (places : ℕ). replacement (a s .arities) (v s) then position n p then grown (p + length (v s) + (n - getD (P s .table) p 0)) places) (c .before .shortest .ensures)
     ∙ place-behind (a s) (P s) n (v s) p (room (P s)) (held t))
 
 pub check-replace-spec : {M : Type 1} → statement M
@@ -73,6 +73,6 @@ check-replace-spec =
     enum-told
     enum-told-2
     returns
-    shorter-requires
+    shortest-requires
     check-replacement-requires
     returns-2)

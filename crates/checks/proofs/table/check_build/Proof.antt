@@ -15,13 +15,13 @@ use Rattle.checks.proofs.table.check_build.Tie as tie
 
 module _ (c : tie.After-check-sizes) where
   abbrev P : Programme
-  P = programme (c .before .before .before .before .before .before .before .before .args .row .now) (c .before .before .before .before .before .before .before .before .args .table .now)
+  P = programme (c .before .before .before .before .before .before .before .before .before .args .row .now) (c .before .before .before .before .before .before .before .before .before .args .table .now) (c .before .before .before .before .before .before .before .before .before .args .classes .now)
 
-  alphabet-is : alphabet (alphabetOf (c .before .before .before .before .before .before .before .before .args .arities .now)) ≡ Fine
+  alphabet-is : alphabet (alphabetOf (c .before .before .before .before .before .before .before .before .before .args .arities .now)) ≡ Fine
   alphabet-is = sym (c .before .before .before .before .check-alphabet .ensures) ∙ c .before .before .enum-told .given .1
 
   sizes-are : sizes Row (length (P .row)) (room P) ≡ keeps Row (c .check-sizes .result)
-  sizes-are = ap (sizes Row (length (P .row))) (sym (c .before .shorter .ensures)) ∙ sym (c .check-sizes .ensures Row)
+  sizes-are = ap (sizes Row (length (P .row))) (sym (c .before .shortest .ensures)) ∙ sym (c .check-sizes .ensures Row)
 
 check-alphabet-requires : tie.Need-check-alphabet-requires
 check-alphabet-requires c κs = search needs
@@ -36,8 +36,8 @@ returns : tie.Need-returns
 unfolding buildCheck
 returns c = simp (c .enum-told2 .given .1, sym (c .before .before .check-alphabet .ensures) ∙ c .enum-told2 .given .1)
 
-shorter-requires : tie.Need-shorter-requires
-shorter-requires c κs = search needs
+shortest-requires : tie.Need-shortest-requires
+shortest-requires c κs = search needs
 
 check-sizes-requires : tie.Need-check-sizes-requires
 check-sizes-requires c κs = search needs
@@ -87,7 +87,7 @@ check-build-spec =
     enum-told
     enum-told-2
     returns
-    shorter-requires
+    shortest-requires
     check-sizes-requires
     enum-known-k
     returns-2

@@ -15,16 +15,16 @@ enum-known-response c = search needs
 
 add-result : tie.Need-add-result
 add-result c =
-    let h = rw (c .before .response .given .1) at (c .before .before .before .pre .3) in
+    let h = rw (c .before .response .given .1) at (c .before .before .before .pre .4) in
     omega (arith, h .few)
 
 returns : tie.Need-returns
-returns c = λ n t y h. rw (c .enum-told .given .1) refl
+returns c = λ n t x y h. rw (c .enum-told .given .1) refl
 
 returns-2 : tie.Need-returns-2
-returns-2 c = λ n t y h.
+returns-2 c = λ n t x y h.
     let g = rw (c .before .response .given .1) at h in
-    rw (c .before .response .given .1) (sym (lines-many _ _ _ _ n t y g))
+    rw (c .before .response .given .1) (sym (lines-many _ _ _ _ n t x y g))
 
 pub line-count-spec : {M : Type 1} → statement M
 line-count-spec = tie.close (tie.spec enum-told enum-known-response add-result returns returns-2)

@@ -18,19 +18,19 @@ enum-known-response-2 c = search needs
 
 put-numbered-requires : tie.Need-put-numbered-requires
 put-numbered-requires c κs =
-    let start = c .before .before .before .before .before .before .before .before in
+    let start = c .before .before .before .before .before .before .before .before .before in
     let e = c .before .before .response2 .given .1 in
     let h = start .pre in
     let g = rw e at (h .0) in
     let k = rw e at (h .1) in
-    (g, omega (arith, k, lines-many _ _ _ _ _ _ _ g), h .2)
+    (g, omega (arith, k, lines-many _ _ _ _ _ _ _ _ g), h .2)
 
 same-length : tie.Need-same-length
 same-length c = search needs
 
 returns : tie.Need-returns
 returns c =
-    let start = c .before .before .before .before .before .before .before .before .before .before .before in
+    let start = c .before .before .before .before .before .before .before .before .before .before .before .before in
     let e = c .before .before .before .before .before .response .given .1 in
     let h = start .pre in
     let k = rw e at (h .1) in

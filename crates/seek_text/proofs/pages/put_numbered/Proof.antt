@@ -16,7 +16,7 @@ same-length c = search needs
 
 returns : tie.Need-returns
 returns c =
-    let start = c .before .before .before .before .before .before .before .before .before in
+    let start = c .before .before .before .before .before .before .before .before .before .before in
     let x = c .before .before .put-count .ensures in
     (rw (c .before .before .before .before .if1 .taken) (x .0), omega (arith, start .pre .2, x .1))
 
@@ -55,10 +55,10 @@ shared-slice-read-put-found c = search needs
 
 put-found-requires : tie.Need-put-found-requires
 put-found-requires c κs =
-    let start = c .before .before .before .before .before .before .before .before .before in
-    let s = c .before .before .before .before .before .before .before .before .before .args in
+    let start = c .before .before .before .before .before .before .before .before .before .before in
+    let s = c .before .before .before .before .before .before .before .before .before .before .args in
     let h = start .pre in
-    let l = located (s .a) (s .e) (s .p) (s .count) (s .numbers .now) (s .table .now) (s .positions .now) (h .0) (s .i) (omega (arith, c .before .before .before .before .if1 .left)) (h .1) in
+    let l = located (s .a) (s .e) (s .p) (s .count) (s .numbers .now) (s .table .now) (s .classes .now) (s .positions .now) (h .0) (s .i) (omega (arith, c .before .before .before .before .if1 .left)) (h .1) in
     ((alphabetOf (take (s .a) (s .numbers .now)), h .0 .ready .checked), l .within, h .2)
 
 same-length-2 : tie.Need-same-length-2
@@ -66,11 +66,11 @@ same-length-2 c = search needs
 
 returns-2 : tie.Need-returns-2
 returns-2 c =
-    let start = c .before .before .before .before .before .before .before .before .before .before .before .before in
+    let start = c .before .before .before .before .before .before .before .before .before .before .before .before .before in
     let at-if = c .before .before .before .before .before .before .before in
-    let s = c .before .before .before .before .before .before .before .before .before .before .before .before .args in
+    let s = c .before .before .before .before .before .before .before .before .before .before .before .before .before .args in
     let h = start .pre in
-    let l = located (s .a) (s .e) (s .p) (s .count) (s .numbers .now) (s .table .now) (s .positions .now) (h .0) (s .i) (omega (arith, at-if .if1 .left)) (h .1) in
+    let l = located (s .a) (s .e) (s .p) (s .count) (s .numbers .now) (s .table .now) (s .classes .now) (s .positions .now) (h .0) (s .i) (omega (arith, at-if .if1 .left)) (h .1) in
     let x = c .before .before .put-found .ensures in
     (rw (l .line) (x .text (alphabetOf (take (s .a) (s .numbers .now))) (h .0 .ready .checked) (l .matches)), x .within)
 

@@ -42,8 +42,11 @@ same-length c = search needs
 same-length-2 : tie.Need-same-length-2
 same-length-2 c = search needs
 
+same-length-3 : tie.Need-same-length-3
+same-length-3 c = search needs
+
 returns : tie.Need-returns
-returns c = c .before .before .before .before .find-matches .ensures
+returns c = c .before .before .before .before .before .before .find-matches .ensures
 
 pub find-in-spec : {M : Type 1} → statement M
 find-in-spec =
@@ -61,4 +64,5 @@ find-in-spec =
     find-matches-requires
     same-length
     same-length-2
+    same-length-3
     returns)

@@ -1,7 +1,7 @@
--- `sparrowhem::replace` meets its contract. Row and table are changed where nothing is refused.
+-- `sparrowhem::replace` meets its contract. Row, table and classes are changed where nothing is refused.
 -- Assumes nothing.
 -- what the call is lent
-use mathlib.Core.Path.{_≡_, sym, ap, ap₂, _∙_}
+use mathlib.Core.Path.{_≡_, sym, ap, _∙_}
 use mathlib.Core.List.{List}
 use Prim.Native.Nat.{ℕ}
 use lib.IntN.{pos, _-ℤ_}
@@ -12,9 +12,10 @@ use Rattle.rows.specs.Programme.{Alphabet, Programme, alphabetOf, programme}
 use Rattle.rows.specs.Buffers.{after}
 use Rattle.rows.specs.declared.Check.{Check}
 use Rattle.rows.specs.declared.Check.the-variants.{Fine}
+use Rattle.rows.proofs.Buffers.{same-programme}
 use Rattle.edits.specs.Replace.{Replaceable}
 use Rattle.checks.specs.Checks.{replaceCheck}
-use Rattle.checks.proofs.Replacing.{replace-able, replace-short, able-sizes}
+use Rattle.checks.proofs.Replacing.{replace-able, replace-classes, replace-short, able-sizes}
 use Rattle.sparrowhem.specs.Edit.{newTree, holding}
 use Rattle.sparrowhem.specs.declared.edit.Replaced.the-variants.{Done}
 use borrow.Author.Needs.{needs}
@@ -22,15 +23,13 @@ use Rattle.sparrowhem.proofs.edit.replace.Statement.{statement}
 use Rattle.sparrowhem.proofs.edit.replace.Tie as tie
 
 abbrev start : tie.After-check-replace → tie.Start
-start c =
-    let at-before = c .before .before .before .before .before .before in
-    at-before .before
+start c = c .before .before .before .before .before .before .before .before .before
 
 abbrev a : tie.After-check-replace → Alphabet
 a c = alphabetOf (start c .args .arities .now)
 
 abbrev P : tie.After-check-replace → Programme
-P c = programme (start c .args .row .now) (start c .args .table .now)
+P c = programme (start c .args .row .now) (start c .args .table .now) (start c .args .classes .now)
 
 abbrev n : tie.After-check-replace → ℕ
 n c = start c .args .row-length
@@ -61,14 +60,16 @@ enum-told : tie.Need-enum-told
 enum-told c = search needs
 
 replace-at-requires : tie.Need-replace-at-requires
-replace-at-requires c κs = let o = c .before .before in let s = o .before .before in (able o, replace-short (a s) (P s) (n s) (v s) (p s) (fine o))
+replace-at-requires c κs =
+    let o = c .before .before .before in let s = o .before .before in
+    (able o, replace-classes (a s) (P s) (n s) (v s) (p s) (fine o), replace-short (a s) (P s) (n s) (v s) (p s) (fine o))
 
 change-requires : tie.Need-change-requires
 change-requires c κs =
-    let r = c .before .before .before .before in
-    let o = r .before .before .before in
+    let r = c .before .before .before .before .before .before in
+    let o = c .before .before .before .before .before .before .before .before .before .before in
     let s = o .before .before in
-    able-sizes (a s .arities) (P s .row) (P s .table) (n s) (v s) (p s) (r .replace-at .result) (able o) (r .replace-at .ensures .length-now)
+    able-sizes (a s .arities) (P s .row) (P s .table) (n s) (v s) (p s) (r .replace-at .result) (able o) (r .replace-at .ensures .0 .length-now)
 
 same-length : tie.Need-same-length
 same-length c = search needs
@@ -76,29 +77,35 @@ same-length c = search needs
 same-length-2 : tie.Need-same-length-2
 same-length-2 c = search needs
 
+same-length-3 : tie.Need-same-length-3
+same-length-3 c = search needs
+
 returns : tie.Need-returns
 returns c =
     let s = c .before .before .before in
     let e = sym (s .check-replace .ensures) ∙ c .before .r .given .1 in
     record { answer = simp e; lists = sym (ap (left s) e) }
 
-same-length-3 : tie.Need-same-length-3
-same-length-3 c = search needs
-
 same-length-4 : tie.Need-same-length-4
 same-length-4 c = search needs
 
+same-length-5 : tie.Need-same-length-5
+same-length-5 c = search needs
+
+same-length-6 : tie.Need-same-length-6
+same-length-6 c = search needs
+
 returns-2 : tie.Need-returns-2
 returns-2 c =
-    let r = c .before .before .before .before .before in
-    let o = r .before .before .before in
+    let r = c .before .before .before .before .before .before .before in
+    let o = c .before .before .before .before .before .before .before .before .before .before .before in
     let s = o .before .before in
     let m : ℕ = r .replace-at .result in
-    let now = r .replace-at .ensures in
+    let now = r .replace-at .ensures .0 in
     let by : toZ w32 (ofZ w32 (c .change .result)) ≡ pos m -ℤ pos (n s) = toZ-ofZ {w = w32} {z = c .change .result} (search needs) ∙ c .change .ensures in
     record {
       answer = simp (fine o) (ap (Done m) by ∙ ap (λ (k : ℕ). Done k (pos k -ℤ pos (n s))) (now .length-now));
-      lists = ap₂ programme (now .row-now) (now .table-now) ∙ sym (ap (left s) (fine o));
+      lists = same-programme (now .row-now) (now .table-now) (r .replace-at .ensures .1 .classes-now) ∙ sym (ap (left s) (fine o));
     }
 
 pub replace-spec : {M : Type 1} → statement M
@@ -112,7 +119,9 @@ replace-spec =
     change-requires
     same-length
     same-length-2
-    returns
     same-length-3
+    returns
     same-length-4
+    same-length-5
+    same-length-6
     returns-2)

@@ -13,15 +13,15 @@ use Rattle.sparrowhem.proofs.parts.newer.Statement.{statement}
 use Rattle.sparrowhem.proofs.parts.newer.Tie as tie
 
 told : (c : tie.After-newer-answer) (r : Newest) → c .newer-answer .result ≡ r
-    → (let a = c .before .before .before .before .before .before .before .args in NewestSays (alphabetOf (a .arities .now)) (programme (a .corrected .now) (a .corrected-table .now)) (programme (a .«record» .now) (a .record-table .now)) (a .pattern .now) r)
-told c r e = let a = c .before .before .before .before .before .before .before .args in subst (NewestSays (alphabetOf (a .arities .now)) (programme (a .corrected .now) (a .corrected-table .now)) (programme (a .«record» .now) (a .record-table .now)) (a .pattern .now)) e (c .newer-answer .ensures)
+    → (let a = c .before .before .before .before .before .before .before .before .before .args in NewestSays (alphabetOf (a .arities .now)) (programme (a .corrected .now) (a .corrected-table .now) (a .corrected-classes .now)) (programme (a .«record» .now) (a .record-table .now) (a .record-classes .now)) (a .pattern .now) r)
+told c r e = let a = c .before .before .before .before .before .before .before .before .before .args in subst (NewestSays (alphabetOf (a .arities .now)) (programme (a .corrected .now) (a .corrected-table .now) (a .corrected-classes .now)) (programme (a .«record» .now) (a .record-table .now) (a .record-classes .now)) (a .pattern .now)) e (c .newer-answer .ensures)
 
 in-corrected : (c : tie.After-begin)
-    → (let a = c .before .before .before .before .before .before .before .before .before .args in FirstMatch (alphabetOf (a .arities .now)) (a .corrected .now) (a .pattern .now) (c .begin .given .0 .0) (c .begin .given .0 .1 .0))
+    → (let a = c .before .before .before .before .before .before .before .before .before .before .before .args in FirstMatch (alphabetOf (a .arities .now)) (a .corrected .now) (a .pattern .now) (c .begin .given .0 .0) (c .begin .given .0 .1 .0))
 in-corrected c = told (c .before .before) _ (c .begin .given .1) .1
 
 on-record : (c : tie.After-begin2)
-    → (let a = c .before .before .before .before .before .before .before .before .before .args in FirstMatch (alphabetOf (a .arities .now)) (a .«record» .now) (a .pattern .now) (c .begin2 .given .0 .0) (c .begin2 .given .0 .1 .0))
+    → (let a = c .before .before .before .before .before .before .before .before .before .before .before .args in FirstMatch (alphabetOf (a .arities .now)) (a .«record» .now) (a .pattern .now) (c .begin2 .given .0 .0) (c .begin2 .given .0 .1 .0))
 on-record c = told (c .before .before) _ (c .begin2 .given .1) .2
 
 newer-answer-requires : tie.Need-newer-answer-requires
@@ -32,7 +32,7 @@ enum-known-begin c = search needs
 
 mul-result : tie.Need-mul-result
 mul-result c =
-    let start = c .before .before .before .before .before .before .before .before .before .before in
+    let start = c .before .before .before .before .before .before .before .before .before .before .before .before in
     omega (arith, match-within _ _ _ _ _ (in-corrected (c .before)), start .good)
 
 sub-result : tie.Need-sub-result
@@ -49,7 +49,7 @@ enum-known-begin-2 c = search needs
 
 mul-result-2 : tie.Need-mul-result-2
 mul-result-2 c =
-    let start = c .before .before .before .before .before .before .before .before .before .before in
+    let start = c .before .before .before .before .before .before .before .before .before .before .before .before in
     omega (arith, match-within _ _ _ _ _ (on-record (c .before)), start .good)
 
 sub-result-2 : tie.Need-sub-result-2

@@ -20,17 +20,17 @@ use Rattle.sparrowhem.proofs.parts.newer_answer.Tie as tie
 
 abbrev start : tie.After-check-newer → tie.Start
 start c =
-    let at-before = c .before .before .before .before .before .before in
+    let at-before = c .before .before .before .before .before .before .before .before in
     at-before .before
 
 abbrev a : tie.After-check-newer → Alphabet
 a c = alphabetOf (start c .args .arities .now)
 
 abbrev P : tie.After-check-newer → Programme
-P c = programme (start c .args .corrected .now) (start c .args .corrected-table .now)
+P c = programme (start c .args .corrected .now) (start c .args .corrected-table .now) (start c .args .corrected-classes .now)
 
 abbrev O : tie.After-check-newer → Programme
-O c = programme (start c .args .«record» .now) (start c .args .record-table .now)
+O c = programme (start c .args .«record» .now) (start c .args .record-table .now) (start c .args .record-classes .now)
 
 abbrev q : tie.After-check-newer → List ℕ
 q c = start c .args .pattern .now
@@ -70,16 +70,16 @@ first-match-requires c κs = (_, both c .0)
 enum-known-p : tie.Need-enum-known-p
 enum-known-p c = search needs
 
-mul-t13 : tie.Need-mul-t13
-mul-t13 c = let n = c .before .before .before in omega (arith, both (n .before) .0 .row .sized .most, in-corrected n _ (c .before .p .given .1) .within)
+mul-t15 : tie.Need-mul-t15
+mul-t15 c = let n = c .before .before .before in omega (arith, both (n .before) .0 .row .sized .most, in-corrected n _ (c .before .p .given .1) .within)
 
-shared-slice-read-t15 : tie.Need-shared-slice-read-t15
-shared-slice-read-t15 c =
+shared-slice-read-t17 : tie.Need-shared-slice-read-t17
+shared-slice-read-t17 c =
     let n = c .before .before .before .before in
     omega (arith, both (n .before) .0 .row .sized .fits, in-corrected n _ (c .before .before .p .given .1) .within)
 
-cast-t16 : tie.Need-cast-t16
-cast-t16 c = omega (arith, c .shared-slice-known7 .given (c .before .before .p .given .0 .0))
+cast-t18 : tie.Need-cast-t18
+cast-t18 c = omega (arith, c .shared-slice-known9 .given (c .before .before .p .given .0 .0))
 
 returns : tie.Need-returns
 returns c =
@@ -97,16 +97,16 @@ first-match-requires-2 c κs = (_, both (c .before .before .before) .1)
 enum-known-p-2 : tie.Need-enum-known-p-2
 enum-known-p-2 c = search needs
 
-mul-t19 : tie.Need-mul-t19
-mul-t19 c = let m = c .before .before .before in omega (arith, both (m .before .before .before .before) .1 .row .sized .most, in-record m _ (c .before .p2 .given .1) .within)
+mul-t21 : tie.Need-mul-t21
+mul-t21 c = let m = c .before .before .before in omega (arith, both (m .before .before .before .before) .1 .row .sized .most, in-record m _ (c .before .p2 .given .1) .within)
 
-shared-slice-read-t21 : tie.Need-shared-slice-read-t21
-shared-slice-read-t21 c =
+shared-slice-read-t23 : tie.Need-shared-slice-read-t23
+shared-slice-read-t23 c =
     let m = c .before .before .before .before in
     omega (arith, both (m .before .before .before .before) .1 .row .sized .fits, in-record m _ (c .before .before .p2 .given .1) .within)
 
-cast-t22 : tie.Need-cast-t22
-cast-t22 c = omega (arith, c .shared-slice-known8 .given (c .before .before .p2 .given .0 .0))
+cast-t24 : tie.Need-cast-t24
+cast-t24 c = omega (arith, c .shared-slice-known10 .given (c .before .before .p2 .given .0 .0))
 
 enum-told-3 : tie.Need-enum-told-3
 enum-told-3 c = search needs
@@ -139,16 +139,16 @@ newer-answer-spec =
     enum-told
     first-match-requires
     enum-known-p
-    mul-t13
-    shared-slice-read-t15
-    cast-t16
+    mul-t15
+    shared-slice-read-t17
+    cast-t18
     returns
     enum-told-2
     first-match-requires-2
     enum-known-p-2
-    mul-t19
-    shared-slice-read-t21
-    cast-t22
+    mul-t21
+    shared-slice-read-t23
+    cast-t24
     enum-told-3
     returns-2
     returns-3

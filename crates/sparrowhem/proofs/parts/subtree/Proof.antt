@@ -14,13 +14,13 @@ use Rattle.sparrowhem.proofs.parts.subtree.Statement.{statement}
 use Rattle.sparrowhem.proofs.parts.subtree.Tie as tie
 
 spans : (c : tie.After-known-told)
-    → Spans (alphabetOf (c .before .before .before .before .before .before .before .args .arities .now)) (programme (c .before .before .before .before .before .before .before .args .row .now) (c .before .before .before .before .before .before .before .args .table .now)) (c .before .before .before .before .before .before .before .args .position) (c .before .begin .given .0 .0) (c .before .begin .given .0 .1 .0)
+    → Spans (alphabetOf (c .before .before .before .before .before .before .before .before .args .arities .now)) (programme (c .before .before .before .before .before .before .before .before .args .row .now) (c .before .before .before .before .before .before .before .before .args .table .now) (c .before .before .before .before .before .before .before .before .args .classes .now)) (c .before .before .before .before .before .before .before .before .args .position) (c .before .begin .given .0 .0) (c .before .begin .given .0 .1 .0)
 spans c =
-    let a = c .before .before .before .before .before .before .before .args in
-    answer-span (alphabetOf (a .arities .now)) (programme (a .row .now) (a .table .now)) (a .position) _ _ (sym (c .before .before .before .subtree-answer .ensures) ∙ c .before .begin .given .1)
+    let a = c .before .before .before .before .before .before .before .before .args in
+    answer-span (alphabetOf (a .arities .now)) (programme (a .row .now) (a .table .now) (a .classes .now)) (a .position) _ _ (sym (c .before .before .before .subtree-answer .ensures) ∙ c .before .begin .given .1)
 
-within : (c : tie.After-known-told) → (c .before .begin .given .0 .0 < c .before .begin .given .0 .1 .0) × (c .before .begin .given .0 .1 .0 ≤ length (c .before .before .before .before .before .before .before .args .row .now))
-within c = let a = c .before .before .before .before .before .before .before .args in span-within (alphabetOf (a .arities .now)) (programme (a .row .now) (a .table .now)) (a .position) _ _ (spans c)
+within : (c : tie.After-known-told) → (c .before .begin .given .0 .0 < c .before .begin .given .0 .1 .0) × (c .before .begin .given .0 .1 .0 ≤ length (c .before .before .before .before .before .before .before .before .args .row .now))
+within c = let a = c .before .before .before .before .before .before .before .before .args in span-within (alphabetOf (a .arities .now)) (programme (a .row .now) (a .table .now) (a .classes .now)) (a .position) _ _ (spans c)
 
 subtree-answer-requires : tie.Need-subtree-answer-requires
 subtree-answer-requires c κs = search needs
@@ -54,15 +54,15 @@ part-result-end-2 c = omega (arith, within c)
 
 returns : tie.Need-returns
 returns c =
-    let a = c .before .before .before .before .before .before .before .args in
+    let a = c .before .before .before .before .before .before .before .before .args in
     let none = sym (c .before .before .before .subtree-answer .ensures) ∙ c .before .enum-told .given .1 in
-    (sym (answer-none (alphabetOf (a .arities .now)) (programme (a .row .now) (a .table .now)) (a .position) _ none), subst (λ (x : Placed). SubtreeLies x (a .row .ptr) (a .row .ptr .0, 0 + a .row .ptr .1)) (sym none) (refl, refl))
+    (sym (answer-none (alphabetOf (a .arities .now)) (programme (a .row .now) (a .table .now) (a .classes .now)) (a .position) _ none), subst (λ (x : Placed). SubtreeLies x (a .row .ptr) (a .row .ptr .0, 0 + a .row .ptr .1)) (sym none) (refl, refl))
 
 returns-2 : tie.Need-returns-2
 returns-2 c =
-    let a = c .before .before .before .before .before .before .before .before .args in
+    let a = c .before .before .before .before .before .before .before .before .before .args in
     let span = sym (c .before .before .before .before .subtree-answer .ensures) ∙ c .before .before .begin .given .1 in
-    (sym (span-part (alphabetOf (a .arities .now)) (programme (a .row .now) (a .table .now)) (a .position) _ _ (spans (c .before))), subst (λ (x : Placed). SubtreeLies x (a .row .ptr) (a .row .ptr .0, c .before .before .begin .given .0 .0 * 2 + a .row .ptr .1)) (sym span) (refl, refl))
+    (sym (span-part (alphabetOf (a .arities .now)) (programme (a .row .now) (a .table .now) (a .classes .now)) (a .position) _ _ (spans (c .before))), subst (λ (x : Placed). SubtreeLies x (a .row .ptr) (a .row .ptr .0, c .before .before .begin .given .0 .0 * 2 + a .row .ptr .1)) (sym span) (refl, refl))
 
 pub subtree-spec : {M : Type 1} → statement M
 subtree-spec =

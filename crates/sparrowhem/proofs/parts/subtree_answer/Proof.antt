@@ -11,10 +11,10 @@ use borrow.Author.Needs.{needs}
 use Rattle.sparrowhem.proofs.parts.subtree_answer.Statement.{statement}
 use Rattle.sparrowhem.proofs.parts.subtree_answer.Tie as tie
 
-stands : (c : tie.After-enum-told) → Stands (alphabetOf (c .before .before .before .before .before .before .args .arities .now)) (programme (c .before .before .before .before .before .before .args .row .now) (c .before .before .before .before .before .before .args .table .now)) (c .before .before .before .before .before .before .args .position)
+stands : (c : tie.After-enum-told) → Stands (alphabetOf (c .before .before .before .before .before .before .before .args .arities .now)) (programme (c .before .before .before .before .before .before .before .args .row .now) (c .before .before .before .before .before .before .before .args .table .now) (c .before .before .before .before .before .before .before .args .classes .now)) (c .before .before .before .before .before .before .before .args .position)
 stands c =
-    let a = c .before .before .before .before .before .before .args in
-    subtree-stands (alphabetOf (a .arities .now)) (programme (a .row .now) (a .table .now)) (a .position) (sym (c .before .before .check-subtree .ensures) ∙ c .enum-told .given .1)
+    let a = c .before .before .before .before .before .before .before .args in
+    subtree-stands (alphabetOf (a .arities .now)) (programme (a .row .now) (a .table .now) (a .classes .now)) (a .position) (sym (c .before .before .check-subtree .ensures) ∙ c .enum-told .given .1)
 
 check-subtree-requires : tie.Need-check-subtree-requires
 check-subtree-requires c κs = search needs
@@ -25,16 +25,16 @@ enum-known-r c = search needs
 enum-told : tie.Need-enum-told
 enum-told c = search needs
 
-mul-t8 : tie.Need-mul-t8
-mul-t8 c = let h = stands c in omega (arith, h .below, h .right .sized .fits)
+mul-t9 : tie.Need-mul-t9
+mul-t9 c = let h = stands c in omega (arith, h .below, h .right .sized .fits)
 
-shared-slice-read-t10 : tie.Need-shared-slice-read-t10
-shared-slice-read-t10 c = let h = stands (c .before) in omega (arith, h .below, h .right .sized .fits)
+shared-slice-read-t11 : tie.Need-shared-slice-read-t11
+shared-slice-read-t11 c = let h = stands (c .before) in omega (arith, h .below, h .right .sized .fits)
 
-cast-t11 : tie.Need-cast-t11
-cast-t11 c =
-    let start = c .before .before .before .before .before .before .before in
-    omega (arith, c .shared-slice-known4 .given (start .args .position))
+cast-t12 : tie.Need-cast-t12
+cast-t12 c =
+    let start = c .before .before .before .before .before .before .before .before in
+    omega (arith, c .shared-slice-known5 .given (start .args .position))
 
 returns : tie.Need-returns
 unfolding subtreeAnswer
@@ -43,7 +43,7 @@ returns c = simp (sym (c .before .before .before .check-subtree .ensures) ∙ c 
 returns-2 : tie.Need-returns-2
 unfolding subtreeAnswer
 returns-2 c =
-    let a = c .before .before .before .before .before .before .before .args in
+    let a = c .before .before .before .before .before .before .before .before .args in
     let h = stands (c .before) in
     simp (sym (c .before .before .before .check-subtree .ensures) ∙ c .before .enum-told .given .1, right-entry (a .arities .now) (a .row .now) (a .table .now) (h .right) (a .position) (h .below))
 
@@ -54,8 +54,8 @@ subtree-answer-spec =
     check-subtree-requires
     enum-known-r
     enum-told
-    mul-t8
-    shared-slice-read-t10
-    cast-t11
+    mul-t9
+    shared-slice-read-t11
+    cast-t12
     returns
     returns-2)

@@ -14,13 +14,13 @@ use Rattle.sparrowhem.proofs.search.find.Statement.{statement}
 use Rattle.sparrowhem.proofs.search.find.Tie as tie
 
 abbrev start : tie.After-check-search → tie.Start
-start c = c .before .before .before .before .before .before
+start c = c .before .before .before .before .before .before .before
 
 abbrev a : tie.After-check-search → Alphabet
 a c = alphabetOf (start c .args .arities .now)
 
 abbrev P : tie.After-check-search → Programme
-P c = programme (start c .args .row .now) (start c .args .table .now)
+P c = programme (start c .args .row .now) (start c .args .table .now) (start c .args .classes .now)
 
 abbrev q : tie.After-check-search → List ℕ
 q c = start c .args .pattern .now

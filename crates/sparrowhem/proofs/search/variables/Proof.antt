@@ -15,13 +15,13 @@ use Rattle.sparrowhem.proofs.search.variables.Statement.{statement}
 use Rattle.sparrowhem.proofs.search.variables.Tie as tie
 
 abbrev start : tie.After-check-variables → tie.Start
-start c = c .before .before .before .before .before .before
+start c = c .before .before .before .before .before .before .before
 
 abbrev a : tie.After-check-variables → Alphabet
 a c = alphabetOf (start c .args .arities .now)
 
 abbrev P : tie.After-check-variables → Programme
-P c = programme (start c .args .row .now) (start c .args .table .now)
+P c = programme (start c .args .row .now) (start c .args .table .now) (start c .args .classes .now)
 
 abbrev q : tie.After-check-variables → List ℕ
 q c = start c .args .pattern .now
