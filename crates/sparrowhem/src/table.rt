@@ -11,7 +11,7 @@ pub fn build(arities: &[u16], row: &[u16], table: &mut [u16], classes: &mut [u16
     match checks::check_build(arities, row, table, classes) {
         Check::Refused(r) => Check::Refused(r),
         Check::Fine => {
-            tables::fill_ends(arities, row, table, 0);
+            tables::fill_ends(arities, row, table);
             classes::fill_classes(row, table, classes);
             Check::Fine
         }

@@ -1,4 +1,5 @@
 pub mod Standing
 pub mod Fill
+pub mod Hops
 pub mod Given
 pub mod Pass

@@ -5,8 +5,8 @@ ghost use mathlib.Core.List.{List};
 ghost use Prim.Native.Nat.{ℕ, _+_, _≤_, _<_};
 ghost use lib.Dec.{eqb};
 ghost use lib.ListN.{length};
-ghost use Rattle.rows.specs.Tree.{ends};
-ghost use Rattle.rows.specs.Parse.{parse};
+ghost use Rattle.rows.specs.Tree.{Forest, size, ends};
+ghost use Rattle.rows.specs.Parse.{first, parse};
 ghost use Rattle.rows.specs.Row.{pick};
 ghost use Rattle.rows.specs.Buffers.{written};
 ghost use Rattle.rows.specs.Limits.{rowMost};
@@ -15,6 +15,7 @@ ghost use Rattle.rows.specs.declared.Kept.{Kept};
 ghost use Rattle.rows.specs.declared.Refusal.{Refusal};
 ghost use Rattle.tables.specs.Given.{tiny, short, fair, middle, Sized, Fillable, Sees, Answers};
 ghost use Rattle.tables.specs.declared.Seen.the-variants.{Tree};
+ghost use Rattle.tables.specs.Hops.{Hopping};
 ghost use Rattle.tables.specs.Beside.{Stands, Places, Passed, Agrees, Compares};
 use rows::Keeping;
 use rows::Kept;
@@ -79,23 +80,36 @@ pub fn fill_beside(arities: &[u16], row: &[u16], table: &mut [u16], at: usize, s
     }
 }
 
-// The ends of an accepted row that stands from position `at` on are written from there on.
-pub fn fill_ends(arities: &[u16], row: &[u16], table: &mut [u16], at: usize)
-    requires { ⌜ Fillable (now arities) (now row) (now table) at ⌝ }
-    ensures { λ r. ⌜ now (table .exit) ≡ written (now (table .entry)) at (ends at (parse (now (arities .entry)) (now (row .entry)))) ⌝ }
+// Where a subtree ends whose children, so many, begin at `begin`, the first of them ending at `next`: by hops from child to child,
+// over the entries that are filled in behind it.
+fn hop_over(table: &[u16], begin: usize, next: usize, children: usize) -> usize
+    requires { ⌜ ((g : Forest) × Hopping (now table) begin next children g) ⌝ }
+    ensures { λ r. ⌜ ((g : Forest) → Hopping (now (table .entry)) begin next children g → r ≡ begin + size (first children g)) ⌝ }
 {
-    if row.len() <= TINY {
-        let mut standing = tiny_room();
-        fill_beside(arities, row, table, at, &mut standing);
-    } else if row.len() <= SHORT {
-        let mut standing = short_room();
-        fill_beside(arities, row, table, at, &mut standing);
-    } else if row.len() <= MIDDLE {
-        let mut standing = middle_room();
-        fill_beside(arities, row, table, at, &mut standing);
-    } else {
-        let mut standing = long_room();
-        fill_beside(arities, row, table, at, &mut standing);
+    if children == 0 {
+        return begin;
+    }
+    let mut end = next;
+    let mut left = children - 1;
+    while 0 < left {
+        end = table[end] as usize;
+        left -= 1;
+    }
+    end
+}
+
+// The ends of an accepted row are written to the front of the table, from right to left, with no list beside it.
+pub fn fill_ends(arities: &[u16], row: &[u16], table: &mut [u16])
+    requires { ⌜ Fillable (now arities) (now row) (now table) 0 ⌝ }
+    ensures { λ r. ⌜ now (table .exit) ≡ written (now (table .entry)) 0 (ends 0 (parse (now (arities .entry)) (now (row .entry)))) ⌝ }
+{
+    let mut end = row.len();
+    let mut p = row.len();
+    while 0 < p {
+        let children = rows::arity_of(arities, row[p - 1]) as usize;
+        end = hop_over(table, p, end, children);
+        p -= 1;
+        table[p] = end as u16;
     }
 }
 
