@@ -50,11 +50,15 @@ static answer check_reading(const uint16_t *arities, size_t symbols, const uint1
     return need ? refused(number[3], n) : counted(0);
 }
 
+/* By hops over the children, of whom the first ends where `next` says. */
 static void fill(const uint16_t *arities, const uint16_t *row, size_t n, uint16_t *table, size_t at) {
+    size_t next = 0;
     for (size_t p = n; p-- > 0;) {
-        size_t e = at + p + 1;
-        for (unsigned k = arities[row[p]]; k > 0; k--) e = table[e];
+        unsigned children = arities[row[p]];
+        size_t e = children == 0 ? at + p + 1 : next;
+        for (; children > 1; children--) e = table[e];
         table[at + p] = (uint16_t)e;
+        next = e;
     }
 }
 

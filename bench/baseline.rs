@@ -53,14 +53,17 @@ fn check_reading(arities: &[u16], list: &[u16], blanks: bool, number: [u32; 5]) 
     Ok(())
 }
 
-/// Writes the ends of a row that stands from `at` on.
+/// Writes the ends of a row that stands from `at` on: by hops over the children, of whom the first ends where `next` says.
 fn fill(arities: &[u16], row: &[u16], table: &mut [u16], at: usize) {
+    let mut next = 0;
     for p in (0..row.len()).rev() {
-        let mut e = at + p + 1;
-        for _ in 0..arities[row[p] as usize] {
+        let children = arities[row[p] as usize];
+        let mut e = if children == 0 { at + p + 1 } else { next };
+        for _ in 1..children {
             e = table[e] as usize;
         }
         table[at + p] = e as u16;
+        next = e;
     }
 }
 

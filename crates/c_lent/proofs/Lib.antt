@@ -1,4 +1,3 @@
 pub mod Crossing
 pub mod Checks
 pub mod Lists
-pub mod Copies

@@ -1,11 +1,9 @@
-// Numbers in lent bytes: how answers cross, the alphabet, which is read once, and build, on the bytes of row and table
-// themselves, with copies of them for the classes.
+// Numbers in lent bytes: how answers cross, the alphabet, which is read once, and build, on the lent bytes themselves.
 ghost use mathlib.Core.Path.{_≡_};
 ghost use Rattle.c_lent.specs.Answer.{refused};
 use rows::Refusal;
 
 mod alphabet;
-mod class_list;
 mod fill;
 mod scan;
 mod table;

@@ -14,7 +14,7 @@ use Rattle.rows.specs.Tree.{Forest, Forest.none, Forest.grow, Tree, single, siz
 use Rattle.rows.specs.Row.{pick}
 use Rattle.rows.proofs.Subtrees.{length-subtrees}
 use Rattle.rows.specs.Classes.{alike, placeOf, SameSign}
-use Rattle.classes.specs.Shown.{Bare, Nowhere}
+use Rattle.classes.specs.Shown.{Says, Bare, Nowhere}
 use Rattle.classes.specs.Lasts.{LastEqual, lastPlace, lastsOf, lastOf, Kept, Keeps, idOf, Ids, Link, Comes, Comes.here, Comes.next, Lasting, Again, Twin}
 use Rattle.rows.proofs.Alike.{bud, alike-equal, place-first, getD-map}
 use Rattle.rows.proofs.Classes.{sign-equal, equal-sign}
@@ -205,3 +205,32 @@ link-next {f} {c} {heads} {m} {k} {r} z h l = z .links r (l .from h) (l .before 
 
 pub link-flag : {f : Forest} {c heads : List ℕ} {m k r : ℕ} → Lasting f c heads m k → 0 < r → Link f k r → 32768 ≤ getD c r 0
 link-flag {f} {c} {heads} {m} {k} {r} z h l = kept-leader f c r (z .kept r (l .from h) (l .before h)) (l .itself h)
+
+-- a last place r of a chain, from position k on, and the next
+pub record OnWay (n : ℕ) (c : List ℕ) (k r : ℕ) : Type 0 where
+  pub from : k ≤ r
+  pub before : r < n
+  pub flag : 32768 ≤ getD c r 0
+  pub on : 0 < getD c r 0 - 32768 → r < getD c r 0 - 32768
+
+pub link-at : {f : Forest} {c heads : List ℕ} {m n k r : ℕ} → Lasting f c heads m k → size f ≡ n → 0 < r → Link f k r → OnWay n c k r
+link-at z e h l =
+    record { from = l .from h; before = omega (arith, l .before h); flag = link-flag z h l; on = λ o. omega (arith, link-next z h l .from o) }
+
+-- an equal sign at a last place behind p
+pub says-again : (f : Forest) (p r : ℕ) (b : Bool) → p < r → r < size f → lastOf f r ≡ r → Says b (SameSign f (lastsOf f) p r) → Says b (Again f p r)
+says-again f p r true h m e s = record { behind = h; before = m; itself = e; sign = s }
+says-again f p r false h m e s = λ t. s (t .sign)
+
+-- below what is bare, last places are behind
+pub bare-behind : (f : Forest) (p a : ℕ) → Bare f (lastsOf f) p → p < a → a < p + 1 + size (subtreeAt f p .children) → a < size f
+    → (a < lastOf f a) × (lastOf f a < size f)
+bare-behind f p a bare h m i = let k = last-equal f a i in (go (k .from) (decLt a (lastOf f a)), k .before)
+  where
+    go : a ≤ lastOf f a → Dec (a < lastOf f a) → a < lastOf f a
+    go l (yes x) = x
+    go l (no x) = let e : lastOf f a ≡ a = omega arith in absurd (bare a h m e)
+
+-- no twin, if it does not stand again there
+pub no-twin : (f : Forest) (p a r : ℕ) → r + a ≡ lastOf f a + p → (Again f p r → ⊥) → Twin f p a → ⊥
+no-twin f p a r e d t = let g : t .place ≡ r = omega (arith, t .there) in d (subst (Again f p) g (t .again))

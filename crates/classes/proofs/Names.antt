@@ -208,57 +208,31 @@ module _ (f : Forest) (c : List ℕ) (p v : ℕ) (z : Nameable f c p) (here : ge
     pub leader-marked : v < 49152 → Named f c (set c p p) p
     leader-marked m = leader-set p (first-here (z .naming) (z .inside) (omega (arith, entry)))
 
--- a turn, whatever the entries are: by the last place r of p, its first place u, and the place t for a note of it
-pub record Turn (f : Forest) (c : List ℕ) (p r u t : ℕ) : Type 0 where
+-- a turn, by the last place r of p: p is its own first place, and is noted there; or that place has a first place noted
+pub record Turn (f : Forest) (c : List ℕ) (p r : ℕ) : Type 0 where
   pub last : r < size f
-  pub first : u ≤ p
-  pub place : t < size f
-  pub named : Named f c (set (set c t (49152 + u)) p u) p
+  pub new : getD c r 0 < 49152 → Named f c (set (set c r (49152 + p)) p p) p
+  pub old : 49152 ≤ getD c r 0 → (getD c r 0 - 49152 ≤ p) × Named f c (set c p (getD c r 0 - 49152)) p
 
 module _ (f : Forest) (c : List ℕ) (p : ℕ) (z : Nameable f c p) where
   abbrev E : ℕ
   E = getD c p 0
 
-  -- what was noted at p is written over
-  over : (u : ℕ) → Named f c (set c p u) p → Named f c (set (set c p (49152 + u)) p u) p
-  over u k = subst (λ (l : List ℕ). Named f c l p) (sym (set-set c p (49152 + u) u)) k
-
-  low-turn : E < 32768 → (b : Bool) → ltb (getD c E 0) 49152 ≡ b → Turn f c p E (pick b p (getD c E 0 - 49152)) (pick b E p)
-  low-turn m true e =
-      let i = follower-in f c p E z refl m .1 in
-      record { last = i; first = omega arith; place = i; named = follower-marked f c p E z refl m (ltb-true (getD c E 0) 49152 e) }
-  low-turn m false e =
-      let up : 49152 ≤ getD c E 0 = ltb-false (getD c E 0) 49152 e in
+  turn-by : (b : Bool) → ltb E 32768 ≡ b → Turn f c p (pick b E p)
+  turn-by true e =
+      let low = ltb-true E 32768 e in
       record {
-        last = follower-in f c p E z refl m .1;
-        first = follower-first f c p E z refl m up .upto;
-        place = z .inside;
-        named = over (getD c E 0 - 49152) (follower-named f c p E z refl m up);
+        last = follower-in f c p E z refl low .1;
+        new = follower-marked f c p E z refl low;
+        old = λ m. (follower-first f c p E z refl low m .upto, follower-named f c p E z refl low m);
       }
-
-  high-turn : 32768 ≤ E → (b : Bool) → ltb E 49152 ≡ b → Turn f c p p (pick b p (E - 49152)) (pick b p p)
-  high-turn m true e =
-      record { last = z .inside; first = omega arith; place = z .inside; named = over p (leader-marked f c p E z refl m (ltb-true E 49152 e)) }
-  high-turn m false e =
-      let up : 49152 ≤ E = ltb-false E 49152 e in
+  turn-by false e =
+      let high = ltb-false E 32768 e in
       record {
         last = z .inside;
-        first = leader-first f c p E z refl m up .upto;
-        place = z .inside;
-        named = over (E - 49152) (leader-named f c p E z refl m up);
+        new = λ m. subst (λ (l : List ℕ). Named f c l p) (sym (set-set c p (49152 + p) p)) (leader-marked f c p E z refl high m);
+        old = λ m. (leader-first f c p E z refl high m .upto, leader-named f c p E z refl high m);
       }
 
-  turn-by : (b : Bool) → ltb E 32768 ≡ b
-      → Turn f c p (pick b E p) (pick (ltb (getD c (pick b E p) 0) 49152) p (getD c (pick b E p) 0 - 49152)) (pick (ltb (getD c (pick b E p) 0) 49152) (pick b E p) p)
-  turn-by true e = low-turn (ltb-true E 32768 e) (ltb (getD c E 0) 49152) refl
-  turn-by false e = high-turn (ltb-false E 32768 e) (ltb E 49152) refl
-
-  pub turn : (r w u t : ℕ) → r ≡ pick (ltb E 32768) E p → w ≡ getD c r 0 → u ≡ pick (ltb w 49152) p (w - 49152) → t ≡ pick (ltb w 49152) r p
-      → Turn f c p r u t
-  turn r w u t a n b d =
-      let at : pick (ltb E 32768) E p ≡ r = sym a in
-      let k : Turn f c p r (pick (ltb (getD c r 0) 49152) p (getD c r 0 - 49152)) (pick (ltb (getD c r 0) 49152) r p) =
-      subst (λ (n : ℕ). Turn f c p n (pick (ltb (getD c n 0) 49152) p (getD c n 0 - 49152)) (pick (ltb (getD c n 0) 49152) n p)) at (turn-by (ltb E 32768) refl) in
-      subst (Turn f c p r u) (sym d)
-      (subst (λ (x : ℕ). Turn f c p r x (pick (ltb w 49152) r p)) (sym b)
-      (subst (λ (x : ℕ). Turn f c p r (pick (ltb x 49152) p (x - 49152)) (pick (ltb x 49152) r p)) (sym n) k))
+  pub turn : (r : ℕ) → r ≡ pick (ltb E 32768) E p → Turn f c p r
+  turn r e = subst (Turn f c p) (sym e) (turn-by (ltb E 32768) refl)

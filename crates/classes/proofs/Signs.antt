@@ -25,6 +25,13 @@ pub record Facing (f : Forest) (c : List ℕ) (p q end a b : ℕ) : Type 0 where
   pub upto : a + size left ≡ end
   pub same : (kids f c p ≡ kids f c q) ↔ (said c a left ≡ said c b right)
 
+-- both children stand in the row, and the next ones stand further on
+pub record Both (w t : List ℕ) (a b : ℕ) : Type 0 where
+  pub left : a < length w
+  pub right : b < length w
+  pub more : a < getD t a 0
+  pub more-right : b < getD t b 0
+
 module _ {f : Forest} {w t : List ℕ} (s : Shown f w t) (c : List ℕ) where
   pub facing-start : (p q : ℕ) → p < length w → q < length w → look w p ≡ look w q → Facing f c p q (getD t p 0) (p + 1) (q + 1)
   facing-start p q h m e =
@@ -52,8 +59,8 @@ module _ {f : Forest} {w t : List ℕ} (s : Shown f w t) (c : List ℕ) where
       pub facing-on : a < getD t a 0
       facing-on = omega (arith, s .ends a (first-left .inside))
 
-      pub facing-on-right : b < getD t b 0
-      facing-on-right = omega (arith, s .ends b (first-right .inside))
+      pub facing-both : Both w t a b
+      facing-both = record { left = facing-in .0; right = facing-in .1; more = facing-on; more-right = omega (arith, s .ends b (first-right .inside)) }
 
       both-said : (getD c a 0 ∷ said c (getD t a 0) (first-left .rest) ≡ getD c b 0 ∷ said c (getD t b 0) (first-right .rest))
           ↔ (kids f c p ≡ kids f c q)

@@ -110,6 +110,13 @@ abbrev pub Finds : Forest → List ℕ → ℕ → ℕ → Found → Type 0
 Finds f c p x (At r) = Again f p r
 Finds f c p x Nothing = (q : ℕ) → Comes c x q → SameSign f (lastsOf f) p q → ⊥
 
+-- so many for a short row, and for any other
+abbrev pub fewHeads : ℕ
+fewHeads = 576
+
+abbrev pub manyHeads : ℕ
+manyHeads = 1984
+
 -- room for drawers: those for leaves, and some more
 pub record Drawers (heads : List ℕ) : Type 0 where
   pub some : 512 < length heads

@@ -10,7 +10,7 @@ ghost use Rattle.rows.specs.Classes.{classes as classesOfRow, SameSign};
 ghost use Rattle.rows.specs.Buffers.{written};
 ghost use Rattle.tables.specs.Given.{Right};
 ghost use Rattle.classes.specs.Shown.{look, Shown, Seen, Says, mixed, shelf, Bare};
-ghost use Rattle.classes.specs.Lasts.{lastsOf, idOf, Ids, Keeps, Lasting, Again, Seeks, Finds, Drawers, Placed, Open, Naming, Nameable, Named, AllNamed};
+ghost use Rattle.classes.specs.Lasts.{fewHeads, manyHeads, lastsOf, idOf, Ids, Keeps, Lasting, Again, Seeks, Finds, Drawers, Placed, Open, Naming, Nameable, Named, AllNamed};
 
 // A number as an index.
 pub fn wide(x: u16) -> usize
@@ -265,38 +265,25 @@ fn fill_lasts(row: &[u16], table: &[u16], list: &mut [u16], heads: &mut [u16])
 }
 
 // The last place of p, by its entry v.
-fn last_place(v: usize, p: usize) -> usize
+pub fn last_place(v: usize, p: usize) -> usize
     ensures { λ r. ⌜ r ≡ pick (ltb v 32768) v p ⌝ }
 {
     if v < 32768 { v } else { p }
 }
 
-// The first place of p, by the entry w at its last place.
-fn first_place(w: usize, p: usize) -> usize
-    ensures { λ r. ⌜ r ≡ pick (ltb w 49152) p (w - 49152) ⌝ }
-{
-    if w < 49152 { p } else { w - 49152 }
-}
-
-// Where the first place of p is noted, by the entry w at its last place: there, unless it is noted already.
-fn note_place(w: usize, last: usize, p: usize) -> usize
-    ensures { λ r. ⌜ r ≡ pick (ltb w 49152) last p ⌝ }
-{
-    if w < 49152 { last } else { p }
-}
-
-// Position p gets its first place, and its last place a note of it. That is done alike for every position, so that nothing hangs on
-// what the processor guesses of them; and what is noted is not noted again, so that no turn waits for the one before.
+// Position p gets its first place: the one noted at its last place; or p itself, which is then noted there.
 fn name_at(list: &mut [u16], p: usize)
     requires { ⌜ ((f : Forest) × Nameable f (now list) p) ⌝ }
     ensures { λ u. ⌜ ((f : Forest) → Nameable f (now (list .entry)) p → Named f (now (list .entry)) (now (list .exit)) p) ⌝ }
 {
     let last = last_place(wide(list[p]), p);
     let noted = wide(list[last]);
-    let first = first_place(noted, p);
-    let place = note_place(noted, last, p);
-    list[place] = (49152 + first) as u16;
-    list[p] = first as u16;
+    if noted < 49152 {
+        list[last] = (49152 + p) as u16;
+        list[p] = p as u16;
+        return;
+    }
+    list[p] = (noted - 49152) as u16;
 }
 
 // The last places of the n positions at the front become first places, from left to right.
@@ -312,17 +299,24 @@ fn name_all(list: &mut [u16], n: usize)
     }
 }
 
+// A row of at most so many symbols does with few heads.
+pub const SHORT: usize = 128;
+
 // Heads that lead nowhere, for a short row and for any other. Both together take 5 KiB.
-fn few_heads() -> [u16; 576]
-    ensures { λ r. ⌜ (576 ≡ length r) × ((h : ℕ) → getD r h 0 ≡ 0) ⌝ }
+pub const FEW: usize = 576;
+
+pub fn few_heads() -> [u16; FEW]
+    ensures { λ r. ⌜ (fewHeads ≡ length r) × ((h : ℕ) → getD r h 0 ≡ 0) ⌝ }
 {
-    [0u16; 576]
+    [0u16; FEW]
 }
 
-fn all_heads() -> [u16; 1984]
-    ensures { λ r. ⌜ (1984 ≡ length r) × ((h : ℕ) → getD r h 0 ≡ 0) ⌝ }
+pub const MANY: usize = 1_984;
+
+pub fn many_heads() -> [u16; MANY]
+    ensures { λ r. ⌜ (manyHeads ≡ length r) × ((h : ℕ) → getD r h 0 ≡ 0) ⌝ }
 {
-    [0u16; 1984]
+    [0u16; MANY]
 }
 
 // The last places over heads by the row's length.
@@ -331,11 +325,11 @@ fn fill_apart(row: &[u16], table: &[u16], list: &mut [u16])
     ensures { λ u. ⌜ ((f : Forest) → Shown f (now (row .entry)) (now (table .entry)) → Naming f (now (list .exit)) 0) ⌝ }
     ensures { λ u. ⌜ drop (length (now (row .entry))) (now (list .exit)) ≡ drop (length (now (row .entry))) (now (list .entry)) ⌝ }
 {
-    if row.len() <= 128 {
+    if row.len() <= SHORT {
         let mut heads = few_heads();
         fill_lasts(row, table, list, &mut heads);
     } else {
-        let mut heads = all_heads();
+        let mut heads = many_heads();
         fill_lasts(row, table, list, &mut heads);
     }
 }

@@ -16,15 +16,15 @@ fill-lasts-requires c κs =
     let h = c .before .before .few-heads .ensures in
     (c .before .before .before .before .before .before .before .pre, (record { some = omega (arith, h .0); most = omega (arith, h .0) }, h .1))
 
-all-heads-requires : tie.Need-all-heads-requires
-all-heads-requires c κs = search needs
+many-heads-requires : tie.Need-many-heads-requires
+many-heads-requires c κs = search needs
 
 slice-aggregate-fill-lasts-2 : tie.Need-slice-aggregate-fill-lasts-2
 slice-aggregate-fill-lasts-2 c = search needs
 
 fill-lasts-requires-2 : tie.Need-fill-lasts-requires-2
 fill-lasts-requires-2 c κs =
-    let h = c .before .before .all-heads .ensures in
+    let h = c .before .before .many-heads .ensures in
     (c .before .before .before .before .before .before .before .pre, (record { some = omega (arith, h .0); most = omega (arith, h .0) }, h .1))
 
 same-length : tie.Need-same-length
@@ -46,7 +46,7 @@ fill-apart-spec =
     few-heads-requires
     slice-aggregate-fill-lasts
     fill-lasts-requires
-    all-heads-requires
+    many-heads-requires
     slice-aggregate-fill-lasts-2
     fill-lasts-requires-2
     same-length

@@ -1,30 +1,16 @@
 -- `classes::fill_classes` meets its contract.
 -- Assumes nothing.
-use Prim.Native.Nat.{ℕ, _≤_}
-use mathlib.Core.Path.{_≡_, _∙_, subst}
-use mathlib.Core.List.{List}
+use mathlib.Core.Path.{_≡_, _∙_}
 use native.Mathlib.Omega.{arith}
-use lib.ListN.{length, take, drop}
+use lib.ListN.{length}
 use Rattle.rows.specs.Tree.{size}
-use Rattle.classes.specs.Lasts.{AllNamed}
 use Rattle.rows.specs.Parse.{parse}
 use Rattle.rows.proofs.Parse.{size-parse}
-use Rattle.rows.specs.Classes.{classesOf, classes}
-use Rattle.rows.specs.Buffers.{written}
 use Rattle.classes.proofs.Shown.{right-shown}
-use Rattle.classes.proofs.Front.{first-classes, front-written}
+use Rattle.classes.proofs.Front.{front-named}
 use borrow.Author.Needs.{needs}
 use Rattle.classes.proofs.fill_classes.Statement.{statement}
 use Rattle.classes.proofs.fill_classes.Tie as tie
-
-front : (A w c c′ : List ℕ) {b : List ℕ} → AllNamed (parse A w) b c′ (length w) → length w ≤ length c′ → drop (length w) c′ ≡ drop (length w) c → c′ ≡ written c 0 (classes A w)
-unfolding classes
-front A w c c′ all long stays =
-    let f = parse A w in
-    let m : size f ≡ length w = size-parse A w in
-    front-written A w c c′
-    (subst (λ (n : ℕ). take n c′ ≡ classesOf f) m (first-classes f c′ (omega arith) (λ p h. all .naming .done p (omega arith))))
-    stays
 
 fill-apart-requires : tie.Need-fill-apart-requires
 fill-apart-requires c κs =
@@ -54,7 +40,7 @@ returns c = λ A r.
     let k = c .before .before .name-all in
     let many : size f ≡ length (a .row .now) = size-parse A (a .row .now) in
     let all = k .ensures f (l .ensures .0 f (right-shown A (a .row .now) (a .table .now) r)) many in
-    front A (a .row .now) (a .classes .now) (k .last .0) all (omega (arith, k .kept .0, l .kept .1 .1 .0, s .pre .1)) (all .stays ∙ l .ensures .1)
+    front-named A (a .row .now) (a .classes .now) (k .last .0) all (omega (arith, k .kept .0, l .kept .1 .1 .0, s .pre .1)) (all .stays ∙ l .ensures .1)
 
 pub fill-classes-spec : {M : Type 1} → statement M
 fill-classes-spec = tie.close (tie.spec fill-apart-requires name-all-requires same-length returns)

@@ -1,8 +1,7 @@
 -- `classes::find_last` meets its contract. The loop's invariant: a last place of the chain with the sign of p is still to come.
 -- Assumes nothing.
-use Prim.Native.Nat.{ℕ, _≤_, _<_, _-_, _+_}
+use Prim.Native.Nat.{ℕ, _<_, _-_, _+_}
 use mathlib.Core.Path.{_≡_, sym, subst}
-use mathlib.Core.List.{List}
 use mathlib.Core.Bool.{Bool}
 use native.Mathlib.Omega.{arith}
 use lib.ListN.{length, getD}
@@ -10,7 +9,7 @@ use Rattle.rows.specs.Tree.{Forest}
 use Rattle.rows.specs.Classes.{SameSign}
 use Rattle.classes.specs.Shown.{Shown, Says}
 use Rattle.classes.specs.Lasts.{lastsOf, Link, Comes}
-use Rattle.classes.proofs.Lasts.{comes-past, comes-on, nearer, keeps-ids, link-next, link-flag, link-weaker}
+use Rattle.classes.proofs.Lasts.{comes-past, comes-on, nearer, keeps-ids, link-next, link-weaker, OnWay, link-at}
 use lib.Dec.{ltb}
 use Rattle.rows.specs.Row.{pick}
 use borrow.Author.Needs.{needs}
@@ -29,25 +28,11 @@ abbrev Here : Type 0
 Here = tie.In-loop Inv-loop μ-loop
 
 -- the position r, and the next
-record At (w c : List ℕ) (p r : ℕ) : Type 0 where
-  from : p + 1 ≤ r
-  before : r < length w
-  flag : 32768 ≤ getD c r 0
-  on : 0 < getD c r 0 - 32768 → r < getD c r 0 - 32768
-
-at : (i : Here) → At (i .before .before .before .before .before .before .before .before .args .row .now) (i .before .before .before .before .before .before .before .before .args .list .now) (i .before .before .before .before .before .before .before .before .args .p) (i .before .loop .r)
+at : (i : Here) → OnWay (length (i .before .before .before .before .before .before .before .before .args .row .now)) (i .before .before .before .before .before .before .before .before .args .list .now) (i .before .before .before .before .before .before .before .before .args .p + 1) (i .before .loop .r)
 at i =
     let s = i .before .before .before .before .before .before .before .before in
     let z = s .pre .0 in
-    let m = s .pre .1 .1 (z .forest) (z .shown) in
-    let l = i .before .loop .inv .0 (z .forest) (z .shown) in
-    let h = i .loop-test .taken in
-    record {
-      from = l .from h;
-      before = omega (arith, l .before h, z .shown .many);
-      flag = link-flag m h l;
-      on = λ o. omega (arith, link-next m h l .from o);
-    }
+    link-at (s .pre .1 .1 (z .forest) (z .shown)) (z .shown .many) (i .loop-test .taken) (i .before .loop .inv .0 (z .forest) (z .shown))
 
 mul-wide : tie.Need-mul-wide Inv-loop μ-loop
 mul-wide c = search needs

@@ -1,22 +1,15 @@
 -- `classes::is_again` meets its contract.
 -- Assumes nothing.
-use Prim.Native.Nat.{ℕ, _<_}
-use mathlib.Core.Path.{_≡_, sym, _∙_}
-use mathlib.Core.Bool.{Bool, true, false}
+use Prim.Native.Nat.{_<_}
+use mathlib.Core.Path.{sym, _∙_}
 use native.Mathlib.Omega.{arith}
-use Rattle.rows.specs.Tree.{Forest, size}
-use Rattle.rows.specs.Classes.{SameSign}
-use Rattle.classes.specs.Shown.{Says}
-use Rattle.classes.specs.Lasts.{lastsOf, lastOf, Again}
+use Rattle.rows.specs.Tree.{size}
+use Rattle.classes.specs.Lasts.{lastsOf}
 use Rattle.classes.proofs.Signs.{signs-differ}
-use Rattle.classes.proofs.Lasts.{keeps-ids}
+use Rattle.classes.proofs.Lasts.{keeps-ids, says-again}
 use borrow.Author.Needs.{needs}
 use Rattle.classes.proofs.is_again.Statement.{statement}
 use Rattle.classes.proofs.is_again.Tie as tie
-
-again : (f : Forest) (p r : ℕ) (b : Bool) → p < r → r < size f → lastOf f r ≡ r → Says b (SameSign f (lastsOf f) p r) → Says b (Again f p r)
-again f p r true h m e s = record { behind = h; before = m; itself = e; sign = s }
-again f p r false h m e s = λ t. s (t .sign)
 
 symbol-at-requires : tie.Need-symbol-at-requires
 symbol-at-requires c κs = search needs
@@ -50,7 +43,7 @@ returns-3 : tie.Need-returns-3
 returns-3 c = λ f h.
     let s = c .before .before .before .before .before .before .before .before .before in
     let inside : s .args .r < size f = omega (arith, s .pre .1 .0, h .many) in
-    again f (s .args .p) (s .args .r) (c .same-last .result) (s .pre .1 .0 .0) inside
+    says-again f (s .args .p) (s .args .r) (c .same-last .result) (s .pre .1 .0 .0) inside
     (s .pre .1 .1 f h (s .args .r) (omega (arith, s .pre .1 .0)) inside .leader (c .before .if2 .left)) (c .same-last .ensures f h)
 
 pub is-again-spec : {M : Type 1} → statement M

@@ -1,17 +1,16 @@
 -- `classes::seek` meets its contract.
 -- Assumes nothing.
-use Prim.Native.Nat.{ℕ, _+_, _-_, _≤_, _<_}
+use Prim.Native.Nat.{ℕ, _+_, _-_, _<_}
 use mathlib.Core.Path.{_≡_, sym, ap, _∙_, subst}
 use mathlib.Core.Bool.{Bool}
 use native.Mathlib.Omega.{arith}
 use lib.ListN.{length, getD}
 use mathlib.Core.List.{List}
-use native.Mathlib.Decide.{decLt}
 use Rattle.rows.specs.Tree.{Forest, size, subtreeAt}
 use Rattle.classes.specs.Shown.{Shown, Says, mixed, signOf}
 use Rattle.classes.specs.Lasts.{lastsOf, lastOf, Again, Twin}
 use Rattle.classes.proofs.Signs.{Mixing, mixing-start, mixing-next, mixing-all, Looking, looking-start, looking-in, looking-on, looking-next, looking-done}
-use Rattle.classes.proofs.Lasts.{keeps-ids, last-equal}
+use Rattle.classes.proofs.Lasts.{keeps-ids, bare-behind, no-twin}
 use borrow.Author.Needs.{needs}
 use Rattle.classes.proofs.seek.Statement.{statement}
 use Rattle.classes.proofs.seek.Tie as tie
@@ -44,17 +43,9 @@ behind : (i : Here) (f : Forest) → Shown f (W i) (T i) → (i .before .loop .a
 behind i f h =
     let s = i .before .before .before .before .before .before .before .before .before in
     let l = i .before .loop in
-    let in-f : l .a < size f = omega (arith, inside i, h .many) in
-    let k = last-equal f (l .a) in-f in
     let low : l .a < s .args .p + 1 + size (subtreeAt f (s .args .p) .children) = omega (arith, i .loop-test .taken, l .inv .0, h .ends (s .args .p) (s .pre .1 .0)) in
-    (later (l .a) (lastOf f (l .a)) (k .from) (s .pre .1 .1 f h .1 (l .a) (l .inv .1) low), omega (arith, k .before, h .many))
-  where
-    later : (a b : ℕ) → a ≤ b → (b ≡ a → ⊥) → a < b
-    later a b m d = go (decLt a b)
-      where
-        go : Dec (a < b) → a < b
-        go (yes x) = x
-        go (no x) = let e : b ≡ a = omega arith in absurd (d e)
+    let b = bare-behind f (s .args .p) (l .a) (s .pre .1 .1 f h .1) (l .inv .1) low (omega (arith, inside i, h .many)) in
+    (b .0, omega (arith, b .1, h .many))
 
 -- what was read of the child is its last place
 id : (x : tie.After-id-at Inv-loop μ-loop) (f : Forest) → Shown f (W (x .before)) (T (x .before)) → x .id-at .result ≡ lastOf f (x .before .before .loop .a)
@@ -72,10 +63,6 @@ told x f h =
     let e : x .wide2 .result ≡ lastOf f (x .before .before .before .loop .a) = x .wide2 .ensures ∙ id (x .before) f h in
     let m = x .before .before .before .loop .inv .1 in
     (omega arith, omega arith, omega arith)
-
--- no twin, if it does not stand again there
-no-twin : (f : Forest) (p a r : ℕ) → r + a ≡ lastOf f a + p → (Again f p r → ⊥) → Twin f p a → ⊥
-no-twin f p a r e d t = let g : t .place ≡ r = omega (arith, t .there) in d (subst (Again f p) g (t .again))
 
 mul-wide : tie.Need-mul-wide Inv-loop μ-loop
 mul-wide c = search needs

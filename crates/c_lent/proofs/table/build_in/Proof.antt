@@ -24,7 +24,7 @@ use Rattle.c_lent.proofs.table.build_in.Tie as tie
 -- what the call is lent, and the check of the sizes
 module _ (c : tie.After-read-sizes) where
   abbrev start : tie.Start
-  start = c .before .before .before .before .before .before .before .before .before .before .before .before .before .before
+  start = c .before .before .before .before .before .before .before .before .before .before .before .before .before
 
   abbrev A : List ℕ
   A = numbers (start .args .arities .now)
@@ -34,15 +34,22 @@ module _ (c : tie.After-read-sizes) where
 
   sized : (r : Check) → c .read-sizes .result ≡ r → sizesCheck (alphabetOf A) (length (numbersOf b .row)) (room (numbersOf b)) ≡ r
   sized r e =
-      let n = c .before .before .before .before .before .before .before .count2 .ensures in
-      let beside = ap₂ min (c .before .before .before .before .before .count3 .ensures) (c .before .before .before .count4 .ensures) in
+      let n = c .before .before .before .before .before .before .before .count .ensures in
+      let beside = ap₂ min (c .before .before .before .before .before .count2 .ensures) (c .before .before .before .count3 .ensures) in
       ap₂ (sizesCheck (alphabetOf A)) (sym n) (sym (c .before .before .shortest .ensures ∙ ap₂ min n beside))
       ∙ sym (c .read-sizes .ensures .answer)
       ∙ e
 
-  -- the alphabet that was read
-  front : c .read-sizes .result ≡ Fine → take (c .before .before .before .before .before .before .before .before .count .result) (c .read-sizes .last .1 .0) ≡ A
-  front e = ap (λ (k : ℕ). take k (c .read-sizes .last .1 .0)) (c .before .before .before .before .before .before .before .before .count .ensures) ∙ c .read-sizes .ensures .front e
+-- the alphabet that was read
+module _ (c : tie.After-count4) where
+  abbrev read : tie.After-read-sizes
+  read = c .before .before .before .before .before
+
+  fine : read .read-sizes .result ≡ Fine
+  fine = c .before .enum-told .given .1
+
+  front : take (c .count4 .result) (read .read-sizes .last .1 .0) ≡ A read
+  front = ap (λ (k : ℕ). take k (read .read-sizes .last .1 .0)) (c .count4 .ensures) ∙ read .read-sizes .ensures .front fine
 
 count-requires : tie.Need-count-requires
 count-requires c κs = search needs
@@ -52,9 +59,6 @@ count-requires-2 c κs = search needs
 
 count-requires-3 : tie.Need-count-requires-3
 count-requires-3 c κs = search needs
-
-count-requires-4 : tie.Need-count-requires-4
-count-requires-4 c κs = search needs
 
 shortest-requires : tie.Need-shortest-requires
 shortest-requires c κs = search needs
@@ -71,19 +75,20 @@ refusal-of-requires c κs = search needs
 enum-told : tie.Need-enum-told
 enum-told c = search needs
 
-slice-reshare-prefix-build-under : tie.Need-slice-reshare-prefix-build-under
-slice-reshare-prefix-build-under c =
-    let k = c .before .before .before .before in
-    omega (arith, k .read-sizes .ensures .few (c .enum-told .given .1), c .before .before .before .before .before .before .before .before .before .before .before .before .count .ensures, start k .pre, k .read-sizes .kept)
-
-slice-aggregate-build-under : tie.Need-slice-aggregate-build-under
-slice-aggregate-build-under c = sym (length-take-le _ _ (slice-reshare-prefix-build-under (c .before)))
+count-requires-4 : tie.Need-count-requires-4
+count-requires-4 c κs = search needs
 
 build-under-requires : tie.Need-build-under-requires
 build-under-requires c κs =
-    let k = c .before .before .before .before .before .before .before in
-    let e = c .before .before .before .enum-told .given .1 in
-    subst (λ (l : List ℕ). sizesCheck (alphabetOf l) (length (numbersOf (b k) .row)) (room (numbersOf (b k))) ≡ Fine) (sym (front k e)) (sized k Fine e)
+    let k = c .before .before .before in
+    let h = read k in
+    let long = h .read-sizes .kept in (
+      (
+        omega (arith, h .read-sizes .ensures .few (fine k), k .count4 .ensures, start h .pre .0, long),
+        record { some = omega (arith, start h .pre .1 .some, long); most = omega (arith, start h .pre .1 .most, long) },
+      ),
+      subst (λ (l : List ℕ). sizesCheck (alphabetOf l) (length (numbersOf (b h) .row)) (room (numbersOf (b h))) ≡ Fine) (sym (front k)) (sized h Fine (fine k)),
+    )
 
 same-length : tie.Need-same-length
 same-length c = search needs
@@ -96,15 +101,15 @@ same-length-3 c = search needs
 
 returns : tie.Need-returns
 returns c =
-    let k = c .before .before .before .before .before .before in
+    let h = c .before .before .before .before .before .before in
     let r = c .before .before .r .given .0 .0 in
-    let e = build-refused (alphabetOf (A k)) (numbersOf (b k)) r (sized k (Refused r) (c .before .before .r .given .1)) in
+    let e = build-refused (alphabetOf (A h)) (numbersOf (b h)) r (sized h (Refused r) (c .before .before .r .given .1)) in
     record {
       outcome = Refused r;
-      left = numbersOf (b k);
-      call = record { answer = sym e; lists = sym (ap (λ (x : Check). after x (built (alphabetOf (A k)) (numbersOf (b k))) (numbersOf (b k))) e) };
+      left = numbersOf (b h);
+      call = record { answer = sym e; lists = sym (ap (λ (x : Check). after x (built (alphabetOf (A h)) (numbersOf (b h))) (numbersOf (b h))) e) };
       answer = c .refusal-of .ensures;
-      bytes = sym (beside-same (b k) (λ i. c .before .before .before .before .before .before .before .before .before .before .before .before .before .before .before .before .before .slice-known .given i .fits) (λ i. c .before .before .before .before .before .before .before .before .before .before .before .before .before .before .before .before .slice-known2 .given i .fits));
+      bytes = sym (beside-same (b h) (λ i. c .before .before .before .before .before .before .before .before .before .before .before .before .before .before .before .before .slice-known .given i .fits) (λ i. c .before .before .before .before .before .before .before .before .before .before .before .before .before .before .before .slice-known2 .given i .fits));
     }
 
 same-length-4 : tie.Need-same-length-4
@@ -118,9 +123,10 @@ same-length-6 c = search needs
 
 returns-2 : tie.Need-returns-2
 returns-2 c =
-    let k = c .before .before .before .before .before .before .before .before .before .before .before .before in
-    let u = c .before .before .before .before .build-under in
-    subst (λ (l : List ℕ). BuiltBytes (alphabetOf l) (b k) (u .result) (lent (b k .row) (u .last .1 .1 .0) (u .last .1 .1 .1 .0))) (front k (c .before .before .before .before .before .before .before .before .enum-told .given .1)) (u .ensures)
+    let k = c .before .before .before .before .before .before .before .before .before .before in
+    let h = read k in
+    let u = c .before .before .before .before .before .before .build-under in
+    subst (λ (l : List ℕ). BuiltBytes (alphabetOf l) (b h) (u .result) (lent (b h .row) (u .last .1 .1 .0) (u .last .1 .1 .1 .0))) (front k) (u .ensures)
 
 pub build-in-spec : {M : Type 1} → statement M
 build-in-spec =
@@ -129,14 +135,12 @@ build-in-spec =
     count-requires
     count-requires-2
     count-requires-3
-    count-requires-4
     shortest-requires
     read-sizes-requires
     enum-known-r
     refusal-of-requires
     enum-told
-    slice-reshare-prefix-build-under
-    slice-aggregate-build-under
+    count-requires-4
     build-under-requires
     same-length
     same-length-2
