@@ -13,6 +13,7 @@ ghost use Rattle.wire.specs.Wire.{numbers, bytesOf};
 ghost use Rattle.c_classes.specs.Rewrote.{Overwritten, Rewrote};
 use classes::Found;
 use classes::Sought;
+use classes::clear_heads;
 use classes::last_place;
 use classes::mix;
 use classes::shelf_of;
@@ -265,17 +266,6 @@ fn name_all(list: &mut [u8], n: usize)
     while p < n {
         name_at(list, p);
         p += 1;
-    }
-}
-
-// Heads that lead nowhere.
-fn clear_heads(heads: &mut [u16])
-    ensures { λ u. ⌜ (length (now (heads .exit)) ≡ length (now (heads .entry))) × ((h : ℕ) → getD (now (heads .exit)) h 0 ≡ 0) ⌝ }
-{
-    let mut h: usize = 0;
-    while h < heads.len() {
-        heads[h] = 0;
-        h += 1;
     }
 }
 

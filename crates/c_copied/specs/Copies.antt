@@ -6,6 +6,7 @@ use mathlib.Core.List.{List}
 use lib.ListN.{length, take}
 use Rattle.rows.specs.Limits.{rowMost}
 use Rattle.rows.specs.Programme.{Programme}
+use Rattle.classes.specs.Lasts.{fewHeads}
 
 -- a row of at most so many numbers with a replacement in it is of fair length
 abbrev pub fair : ℕ
@@ -18,10 +19,11 @@ pub record Copied (P : Programme) (n : ℕ) (w t c : List ℕ) : Type 0 where
   pub classes : take n c ≡ take n (P .classes)
 
 -- rooms for a row of n numbers in and beside which one of m numbers is put: for the row, its table and its classes once it stands there, for
--- the m numbers themselves, and for the ends of either
+-- the m numbers themselves, and one room for the ends of either and then for the heads of the classes
 pub record Rooms (n m : ℕ) (w t c v room : List ℕ) : Type 0 where
   pub row : min rowMost (n + m) ≤ length w
   pub table : min rowMost (n + m) ≤ length t
   pub classes : min rowMost (n + m) ≤ length c
   pub replacement : min rowMost m ≤ length v
   pub ends : min rowMost (max n m) ≤ length room
+  pub heads : fewHeads ≤ length room

@@ -218,7 +218,7 @@ fn replace_sized(
     let mut t = tables::short_room();
     let mut c = tables::short_room();
     let mut v = tables::short_room();
-    let mut room = tables::short_room();
+    let mut room = classes::few_heads();
     crate::copies::copy_kept(row, table, classes, n, &mut w, &mut t, &mut c);
     replace_in(
         arities,

@@ -76,9 +76,11 @@ front-classes : (A w b : List ℕ) → take (length w) (written b 0 (classes A w
 unfolding written
 front-classes A w b = take-at (classes A w) (drop (0 + length (classes A w)) b) (length w) (class-of-row A w .0)
 
-pub filled-classed : (whose : Kept → Refusal) (A w c b : List ℕ) → differs (λ k. whose (Misclassed k)) 0 (take (length w) (written b 0 (classes A w))) c ≡ classed whose A w c
+-- a list held against one in which the classes are filled in
+pub filled-classed : (whose : Kept → Refusal) (A w c b b′ : List ℕ) → b′ ≡ written b 0 (classes A w)
+    → differs (λ k. whose (Misclassed k)) 0 (take (length w) b′) c ≡ classed whose A w c
 unfolding classed
-filled-classed whose A w c b = ap (λ (l : List ℕ). differs (λ k. whose (Misclassed k)) 0 l c) (front-classes A w b)
+filled-classed whose A w c b b′ filled = ap (λ (l : List ℕ). differs (λ k. whose (Misclassed k)) 0 l c) (ap (take (length w)) filled ∙ front-classes A w b)
 
 -- what the scan asks for: the row with its table and a list, and rooms for heads and links, of zeros
 pub row-seen : (A w t c : List ℕ) → Right A w t → length w ≤ length c → Seen w t c

@@ -11,6 +11,7 @@ ghost use Rattle.rows.specs.declared.Kept.the-variants.{Misclassed};
 ghost use Rattle.rows.specs.declared.Refusal.{Refusal};
 ghost use Rattle.tables.specs.Given.{Right};
 ghost use Rattle.classes.specs.Shown.{Shown, Seen, Says};
+ghost use Rattle.classes.specs.Lasts.{fewHeads};
 ghost use Rattle.class_checks.specs.Repeats.{Grants, Judges, SamePart, Repeat, Skips, Twin, Signs, Space, Unseen, Entered, Reached, Rooted, Run, Nexts};
 use classes::mix;
 use classes::shelf_of;
@@ -382,18 +383,8 @@ fn compare_classes(right: &[u16], classes: &[u16], n: usize) -> Keeping
     Keeping::Sound
 }
 
-// The same against the classes of the row, filled in over a buffer.
-fn compare_filled(row: &[u16], table: &[u16], classes: &[u16], right: &mut [u16]) -> Keeping
-    requires { ⌜ ((A : List ℕ) × Right A (now row) (now table)) ⌝ }
-    requires { ⌜ (length (now row) ≤ length (now classes)) × (length (now row) ≤ length (now right)) ⌝ }
-    ensures { λ r. ⌜ ((A : List ℕ) → Right A (now (row .entry)) (now (table .entry)) → (whose : Kept → Refusal) → keeps whose r ≡ classed whose A (now (row .entry)) (now (classes .entry))) ⌝ }
-{
-    classes::fill_classes(row, table, right);
-    compare_classes(right, classes, row.len())
-}
-
-// The same, over heads and links that lead nowhere yet. Only where the scan does not say that all is right are the classes filled in,
-// over the links.
+// Refusal 62 for a short row, over heads and links that lead nowhere yet. Only where the scan does not say that all is right are the
+// classes filled in, over the links.
 fn check_near(
     row: &[u16],
     table: &[u16],
@@ -409,7 +400,8 @@ fn check_near(
     if scan_leaders(row, table, classes, heads, links) {
         return Keeping::Sound;
     }
-    compare_filled(row, table, classes, links)
+    classes::fill_short(row, table, links);
+    compare_classes(links, classes, row.len())
 }
 
 // The answer to what is asked, over heads and links that lead nowhere yet.
@@ -422,12 +414,15 @@ fn answer_beside(
     asked: Asked,
 ) -> Keeping
     requires { ⌜ ((A : List ℕ) × Right A (now row) (now table)) ⌝ }
-    requires { ⌜ length (now row) ≤ length (now classes) ⌝ }
+    requires { ⌜ (length (now row) ≤ length (now classes)) × (fewHeads ≤ length (now heads)) ⌝ }
     requires { ⌜ Space (now heads) (now links) (length (now row)) × ((h : ℕ) → getD (now heads) h 0 ≡ 0) × ((h : ℕ) → getD (now links) h 0 ≡ 0) ⌝ }
     ensures { λ r. ⌜ ((A : List ℕ) → Right A (now (row .entry)) (now (table .entry)) → Judges A (now (row .entry)) (now (classes .entry)) asked r) ⌝ }
 {
     match asked {
-        Asked::First => compare_filled(row, table, classes, links),
+        Asked::First => {
+            classes::fill_beside(row, table, links, heads);
+            compare_classes(links, classes, row.len())
+        }
         Asked::Right => {
             if scan_leaders(row, table, classes, heads, links) {
                 return Keeping::Sound;

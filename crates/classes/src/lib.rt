@@ -299,10 +299,22 @@ fn name_all(list: &mut [u16], n: usize)
     }
 }
 
-// A row of at most so many symbols does with few heads.
-pub const SHORT: usize = 128;
+// The classes of the row, whose table is right, are written to the front of the list, over heads that lead nowhere yet; later
+// places stay.
+fn fill_over(row: &[u16], table: &[u16], classes: &mut [u16], heads: &mut [u16])
+    requires { ⌜ ((A : List ℕ) × Right A (now row) (now table)) ⌝ }
+    requires { ⌜ length (now row) ≤ length (now classes) ⌝ }
+    requires { ⌜ Drawers (now heads) × ((h : ℕ) → getD (now heads) h 0 ≡ 0) ⌝ }
+    ensures { λ u. ⌜ ((A : List ℕ) → Right A (now (row .entry)) (now (table .entry)) → now (classes .exit) ≡ written (now (classes .entry)) 0 (classesOfRow A (now (row .entry)))) ⌝ }
+{
+    fill_lasts(row, table, classes, heads);
+    name_all(classes, row.len());
+}
 
-// Heads that lead nowhere, for a short row and for any other. Both together take 5 KiB.
+// A row of at most so many symbols does with few heads.
+pub const SHORT: usize = 512;
+
+// Heads that lead nowhere, few and many. Both together take 5 KiB.
 pub const FEW: usize = 576;
 
 pub fn few_heads() -> [u16; FEW]
@@ -319,27 +331,60 @@ pub fn many_heads() -> [u16; MANY]
     [0u16; MANY]
 }
 
-// The last places over heads by the row's length.
-fn fill_apart(row: &[u16], table: &[u16], list: &mut [u16])
-    requires { ⌜ Seen (now row) (now table) (now list) ⌝ }
-    ensures { λ u. ⌜ ((f : Forest) → Shown f (now (row .entry)) (now (table .entry)) → Naming f (now (list .exit)) 0) ⌝ }
-    ensures { λ u. ⌜ drop (length (now (row .entry))) (now (list .exit)) ≡ drop (length (now (row .entry))) (now (list .entry)) ⌝ }
+// The heads lead nowhere any more.
+pub fn clear_heads(heads: &mut [u16])
+    ensures { λ u. ⌜ (length (now (heads .exit)) ≡ length (now (heads .entry))) × ((h : ℕ) → getD (now (heads .exit)) h 0 ≡ 0) ⌝ }
 {
-    if row.len() <= SHORT {
-        let mut heads = few_heads();
-        fill_lasts(row, table, list, &mut heads);
-    } else {
-        let mut heads = many_heads();
-        fill_lasts(row, table, list, &mut heads);
+    let mut h: usize = 0;
+    while h < heads.len() {
+        heads[h] = 0;
+        h += 1;
     }
 }
 
-// The classes of the row, whose table is right, are written to the front of the list; later places stay.
+// How many heads a row of n symbols takes of a room with so many places.
+pub fn heads_of(n: usize, places: usize) -> usize
+    requires { ⌜ fewHeads ≤ places ⌝ }
+    ensures { λ r. ⌜ (fewHeads ≤ r) × (r ≤ manyHeads) × (r ≤ places) ⌝ }
+{
+    if n <= SHORT {
+        return FEW;
+    }
+    if places <= MANY { places } else { MANY }
+}
+
+// The classes of the row, whose table is right, are written to the front of the list; later places stay. The heads are taken from a
+// room that is lent for them.
+pub fn fill_beside(row: &[u16], table: &[u16], classes: &mut [u16], room: &mut [u16])
+    requires { ⌜ ((A : List ℕ) × Right A (now row) (now table)) ⌝ }
+    requires { ⌜ (length (now row) ≤ length (now classes)) × (fewHeads ≤ length (now room)) ⌝ }
+    ensures { λ u. ⌜ ((A : List ℕ) → Right A (now (row .entry)) (now (table .entry)) → now (classes .exit) ≡ written (now (classes .entry)) 0 (classesOfRow A (now (row .entry)))) ⌝ }
+{
+    let k = heads_of(row.len(), room.len());
+    clear_heads(&mut room[..k]);
+    fill_over(row, table, classes, &mut room[..k]);
+}
+
+// The same with few heads, for a short row.
+pub fn fill_short(row: &[u16], table: &[u16], classes: &mut [u16])
+    requires { ⌜ ((A : List ℕ) × Right A (now row) (now table)) ⌝ }
+    requires { ⌜ length (now row) ≤ length (now classes) ⌝ }
+    ensures { λ u. ⌜ ((A : List ℕ) → Right A (now (row .entry)) (now (table .entry)) → now (classes .exit) ≡ written (now (classes .entry)) 0 (classesOfRow A (now (row .entry)))) ⌝ }
+{
+    let mut heads = few_heads();
+    fill_over(row, table, classes, &mut heads);
+}
+
+// The same for any row.
 pub fn fill_classes(row: &[u16], table: &[u16], classes: &mut [u16])
     requires { ⌜ ((A : List ℕ) × Right A (now row) (now table)) ⌝ }
     requires { ⌜ length (now row) ≤ length (now classes) ⌝ }
     ensures { λ u. ⌜ ((A : List ℕ) → Right A (now (row .entry)) (now (table .entry)) → now (classes .exit) ≡ written (now (classes .entry)) 0 (classesOfRow A (now (row .entry)))) ⌝ }
 {
-    fill_apart(row, table, classes);
-    name_all(classes, row.len());
+    if row.len() <= SHORT {
+        fill_short(row, table, classes);
+        return;
+    }
+    let mut heads = many_heads();
+    fill_over(row, table, classes, &mut heads);
 }

@@ -12,6 +12,7 @@ ghost use Rattle.rows.specs.Reading.{Accepted};
 ghost use Rattle.rows.specs.Refusals.{_then_, position, grown};
 ghost use Rattle.rows.specs.Buffers.{written};
 ghost use Rattle.tables.specs.Given.{Right};
+ghost use Rattle.classes.specs.Lasts.{fewHeads};
 ghost use Rattle.buffers.specs.Shift.{shifted, spliced};
 ghost use Rattle.buffers.specs.Renewed.{renewed};
 ghost use Rattle.edits.specs.Moved.{moved, splicedEnds};
@@ -111,17 +112,25 @@ fn replace_subtree(
 }
 
 // The classes of the row of m symbols at the front of its buffer, with its table, in a list of which n places were in use;
-// freed places are marked so. Any class may change, also far from the place of a replacement, and so all are filled anew.
-fn renew_classes(row: &[u16], table: &[u16], classes: &mut [u16], n: usize, m: usize)
-    requires { ⌜ ((A : List ℕ) × Right A (take m (now row)) (now table)) × (m ≤ length (now row)) × (m ≤ length (now classes)) × (n ≤ length (now classes)) ⌝ }
+// freed places are marked so. Any class may change, also far from the place of a replacement, and so all are filled anew. `room` is
+// for the heads.
+fn renew_classes(
+    row: &[u16],
+    table: &[u16],
+    classes: &mut [u16],
+    n: usize,
+    m: usize,
+    room: &mut [u16],
+)
+    requires { ⌜ ((A : List ℕ) × Right A (take m (now row)) (now table)) × (m ≤ length (now row)) × (m ≤ length (now classes)) × (n ≤ length (now classes)) × (fewHeads ≤ length (now room)) ⌝ }
     ensures { λ r. ⌜ ((A : List ℕ) → Right A (take m (now (row .entry))) (now (table .entry)) → now (classes .exit) ≡ renewed (now (classes .entry)) n freedClass (classesOfRow A (take m (now (row .entry))))) ⌝ }
 {
-    classes::fill_classes(&row[..m], table, classes);
+    classes::fill_beside(&row[..m], table, classes, room);
     buffers::fill(classes, m, n, rows::FREED_CLASS);
 }
 
 // In the row of n symbols at the front of its buffer, with its table and its classes, the subtree at p gives way to the row
-// `v`. The answer is the new length. `standing` has room for the ends of `v`.
+// `v`. The answer is the new length. `room` is for the ends of `v`, and then for the heads of the classes.
 pub fn replace_beside(
     arities: &[u16],
     row: &mut [u16],
@@ -130,17 +139,17 @@ pub fn replace_beside(
     n: usize,
     v: &[u16],
     p: usize,
-    standing: &mut [u16],
+    room: &mut [u16],
 ) -> usize
-    requires { ⌜ Replaceable (now arities) (now row) (now table) n (now v) p × ClassRoom (now arities) (now row) (now classes) n (now v) p × (length (now v) ≤ length (now standing)) ⌝ }
+    requires { ⌜ Replaceable (now arities) (now row) (now table) n (now v) p × ClassRoom (now arities) (now row) (now classes) n (now v) p × (length (now v) ≤ length (now room)) × (fewHeads ≤ length (now room)) ⌝ }
     ensures { λ r. ⌜ Replacing (now (arities .entry)) (now (row .entry)) (now (table .entry)) n (now (v .entry)) p (now (row .exit)) (now (table .exit)) r × Reclassing (now (arities .entry)) (now (row .entry)) (now (classes .entry)) n (now (v .entry)) p (now (classes .exit)) ⌝ }
 {
-    let m = replace_subtree(arities, row, table, n, v, p, standing);
-    renew_classes(row, table, classes, n, m);
+    let m = replace_subtree(arities, row, table, n, v, p, room);
+    renew_classes(row, table, classes, n, m, room);
     m
 }
 
-// The same. A shorter replacement takes less room for its ends.
+// The same. A shorter replacement takes less room.
 pub fn replace_at(
     arities: &[u16],
     row: &mut [u16],
@@ -153,16 +162,20 @@ pub fn replace_at(
     requires { ⌜ Replaceable (now arities) (now row) (now table) n (now v) p × ClassRoom (now arities) (now row) (now classes) n (now v) p × (length (now v) ≤ rowMost) ⌝ }
     ensures { λ r. ⌜ Replacing (now (arities .entry)) (now (row .entry)) (now (table .entry)) n (now (v .entry)) p (now (row .exit)) (now (table .exit)) r × Reclassing (now (arities .entry)) (now (row .entry)) (now (classes .entry)) n (now (v .entry)) p (now (classes .exit)) ⌝ }
 {
-    if v.len() <= tables::SHORT {
-        let mut standing = tables::short_room();
-        return replace_beside(arities, row, table, classes, n, v, p, &mut standing);
+    if n + v.len() <= classes::SHORT {
+        let mut room = classes::few_heads();
+        return replace_beside(arities, row, table, classes, n, v, p, &mut room);
+    }
+    if v.len() <= classes::MANY {
+        let mut room = classes::many_heads();
+        return replace_beside(arities, row, table, classes, n, v, p, &mut room);
     }
     if v.len() <= tables::MIDDLE {
-        let mut standing = tables::middle_room();
-        return replace_beside(arities, row, table, classes, n, v, p, &mut standing);
+        let mut room = tables::middle_room();
+        return replace_beside(arities, row, table, classes, n, v, p, &mut room);
     }
-    let mut standing = tables::long_room();
-    replace_beside(arities, row, table, classes, n, v, p, &mut standing)
+    let mut room = tables::long_room();
+    replace_beside(arities, row, table, classes, n, v, p, &mut room)
 }
 
 // Refusals 17 and 18, for a subtree of `size` symbols at position p of a row of n symbols with its table, where the shortest

@@ -20,7 +20,7 @@ slice-aggregate-answer-beside-2 : tie.Need-slice-aggregate-answer-beside-2
 slice-aggregate-answer-beside-2 c = search needs
 
 answer-beside-requires : tie.Need-answer-beside-requires
-answer-beside-requires c κs = let s = c .before .before .before .before .before .before .before .before in (s .pre .0, (s .pre .1, rooms-ready (c .before .before .before .fair-places .result) (c .before .before .fair-places2 .result) (length (s .args .row .now)) 1024 (omega (arith, c .before .before .before .before .if1 .taken)) (omega arith, omega arith) (c .before .before .before .fair-places .ensures) (c .before .before .fair-places2 .ensures)))
+answer-beside-requires c κs = let s = c .before .before .before .before .before .before .before .before in (s .pre .0, ((s .pre .1, omega (arith, c .before .before .before .fair-places .ensures .0)), rooms-ready (c .before .before .before .fair-places .result) (c .before .before .fair-places2 .result) (length (s .args .row .now)) 1024 (omega (arith, c .before .before .before .before .if1 .taken)) (omega arith, omega arith) (c .before .before .before .fair-places .ensures) (c .before .before .fair-places2 .ensures)))
 
 returns : tie.Need-returns
 returns c = search needs
@@ -38,7 +38,7 @@ slice-aggregate-answer-beside-4 : tie.Need-slice-aggregate-answer-beside-4
 slice-aggregate-answer-beside-4 c = search needs
 
 answer-beside-requires-2 : tie.Need-answer-beside-requires-2
-answer-beside-requires-2 c κs = let s = c .before .before .before .before .before .before .before .before .before in (s .pre .0, (s .pre .1, rooms-ready (c .before .before .before .middle-places .result) (c .before .before .middle-places2 .result) (length (s .args .row .now)) 4096 (omega (arith, c .before .before .before .before .if2 .taken)) (omega arith, omega arith) (c .before .before .before .middle-places .ensures) (c .before .before .middle-places2 .ensures)))
+answer-beside-requires-2 c κs = let s = c .before .before .before .before .before .before .before .before .before in (s .pre .0, ((s .pre .1, omega (arith, c .before .before .before .middle-places .ensures .0)), rooms-ready (c .before .before .before .middle-places .result) (c .before .before .middle-places2 .result) (length (s .args .row .now)) 4096 (omega (arith, c .before .before .before .before .if2 .taken)) (omega arith, omega arith) (c .before .before .before .middle-places .ensures) (c .before .before .middle-places2 .ensures)))
 
 returns-2 : tie.Need-returns-2
 returns-2 c = search needs
@@ -56,7 +56,7 @@ slice-aggregate-answer-beside-6 : tie.Need-slice-aggregate-answer-beside-6
 slice-aggregate-answer-beside-6 c = search needs
 
 answer-beside-requires-3 : tie.Need-answer-beside-requires-3
-answer-beside-requires-3 c κs = let s = c .before .before .before .before .before .before .before .before .before in (s .pre .0, (s .pre .1, rooms-ready (c .before .before .before .long-places .result) (c .before .before .long-places2 .result) (length (s .args .row .now)) 16384 (omega (arith, s .pre .0 .1 .sized .most)) (omega arith, omega arith) (c .before .before .before .long-places .ensures) (c .before .before .long-places2 .ensures)))
+answer-beside-requires-3 c κs = let s = c .before .before .before .before .before .before .before .before .before in (s .pre .0, ((s .pre .1, omega (arith, c .before .before .before .long-places .ensures .0)), rooms-ready (c .before .before .before .long-places .result) (c .before .before .long-places2 .result) (length (s .args .row .now)) 16384 (omega (arith, s .pre .0 .1 .sized .most)) (omega arith, omega arith) (c .before .before .before .long-places .ensures) (c .before .before .long-places2 .ensures)))
 
 returns-3 : tie.Need-returns-3
 returns-3 c = search needs

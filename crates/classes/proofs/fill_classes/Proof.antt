@@ -1,46 +1,46 @@
 -- `classes::fill_classes` meets its contract.
 -- Assumes nothing.
-use mathlib.Core.Path.{_≡_, _∙_}
 use native.Mathlib.Omega.{arith}
-use lib.ListN.{length}
-use Rattle.rows.specs.Tree.{size}
-use Rattle.rows.specs.Parse.{parse}
-use Rattle.rows.proofs.Parse.{size-parse}
-use Rattle.classes.proofs.Shown.{right-shown}
-use Rattle.classes.proofs.Front.{front-named}
 use borrow.Author.Needs.{needs}
 use Rattle.classes.proofs.fill_classes.Statement.{statement}
 use Rattle.classes.proofs.fill_classes.Tie as tie
 
-fill-apart-requires : tie.Need-fill-apart-requires
-fill-apart-requires c κs =
-    let s = c .before .before .before .before in
-    let a = s .args in
-    record { forest = parse (s .pre .0 .0) (a .row .now); shown = right-shown (s .pre .0 .0) (a .row .now) (a .table .now) (s .pre .0 .1); room = s .pre .1 }
-
-name-all-requires : tie.Need-name-all-requires
-name-all-requires c κs =
-    let s = c .before .before .before .before .before .before .before .before in
-    let a = s .args in
-    let A = s .pre .0 .0 in
-    let l = c .before .before .before .fill-apart in (
-      (parse A (a .row .now), l .ensures .0 (parse A (a .row .now)) (right-shown A (a .row .now) (a .table .now) (s .pre .0 .1)), size-parse A (a .row .now)),
-      (s .pre .0 .1 .sized .most, omega (arith, l .kept .1 .1 .0, s .pre .1)),
-    )
+fill-short-requires : tie.Need-fill-short-requires
+fill-short-requires c κs = search needs
 
 same-length : tie.Need-same-length
 same-length c = search needs
 
 returns : tie.Need-returns
-returns c = λ A r.
-    let s = c .before .before .before .before .before .before .before .before .before .before .before in
-    let a = s .args in
-    let f = parse A (a .row .now) in
-    let l = c .before .before .before .before .before .before .fill-apart in
-    let k = c .before .before .name-all in
-    let many : size f ≡ length (a .row .now) = size-parse A (a .row .now) in
-    let all = k .ensures f (l .ensures .0 f (right-shown A (a .row .now) (a .table .now) r)) many in
-    front-named A (a .row .now) (a .classes .now) (k .last .0) all (omega (arith, k .kept .0, l .kept .1 .1 .0, s .pre .1)) (all .stays ∙ l .ensures .1)
+returns c = search needs
+
+many-heads-requires : tie.Need-many-heads-requires
+many-heads-requires c κs = search needs
+
+slice-aggregate-fill-over : tie.Need-slice-aggregate-fill-over
+slice-aggregate-fill-over c = search needs
+
+fill-over-requires : tie.Need-fill-over-requires
+fill-over-requires c κs =
+    let s = c .before .before .before .before .before .before .before in
+    let h = c .before .before .many-heads .ensures in
+    (s .pre .0, (s .pre .1, (record { some = omega (arith, h .0); most = omega (arith, h .0) }, h .1)))
+
+same-length-2 : tie.Need-same-length-2
+same-length-2 c = search needs
+
+returns-2 : tie.Need-returns-2
+returns-2 c = search needs
 
 pub fill-classes-spec : {M : Type 1} → statement M
-fill-classes-spec = tie.close (tie.spec fill-apart-requires name-all-requires same-length returns)
+fill-classes-spec =
+    tie.close
+    (tie.spec
+    fill-short-requires
+    same-length
+    returns
+    many-heads-requires
+    slice-aggregate-fill-over
+    fill-over-requires
+    same-length-2
+    returns-2)

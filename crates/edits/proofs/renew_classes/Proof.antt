@@ -17,11 +17,11 @@ use Rattle.edits.proofs.renew_classes.Tie as tie
 long : (s : tie.Start) → length (take (s .args .m) (s .args .row .now)) ≡ s .args .m
 long s = length-take-le (s .args .m) (s .args .row .now) (s .pre .1)
 
-slice-aggregate-fill-classes : tie.Need-slice-aggregate-fill-classes
-slice-aggregate-fill-classes c = sym (long (c .before .before .before .before))
+slice-aggregate-fill-beside : tie.Need-slice-aggregate-fill-beside
+slice-aggregate-fill-beside c = sym (long (c .before .before .before .before .before))
 
-fill-classes-requires : tie.Need-fill-classes-requires
-fill-classes-requires c κs = let s = c .before .before .before .before .before in (s .pre .0, omega (arith, long s, s .pre .2))
+fill-beside-requires : tie.Need-fill-beside-requires
+fill-beside-requires c κs = let s = c .before .before .before .before .before .before .before in (s .pre .0, (omega (arith, long s, s .pre .2), s .pre .4))
 
 fill-requires : tie.Need-fill-requires
 fill-requires c κs = search needs
@@ -29,14 +29,24 @@ fill-requires c κs = search needs
 same-length : tie.Need-same-length
 same-length c = search needs
 
+same-length-2 : tie.Need-same-length-2
+same-length-2 c = search needs
+
 returns : tie.Need-returns
 returns c A r =
-    let s = c .before .before .before .before .before .before .before .before .before .before .before .before in let g = s .args in
+    let s = c .before .before .before .before .before .before .before .before .before .before .before .before .before .before .before .before in
+    let g = s .args in
     c .before .before .fill .ensures
-    ∙ ap (λ (l : List ℕ). written l (g .m) (replicate (g .n - g .m) 0)) (c .before .before .before .before .before .before .fill-classes .ensures A r)
+    ∙ ap (λ (l : List ℕ). written l (g .m) (replicate (g .n - g .m) 0)) (c .before .before .before .before .before .before .before .before .fill-beside .ensures A r)
     ∙ renewed-whole (g .classes .now) (g .n) 0 (g .m) _ (class-of-row A (take (g .m) (g .row .now)) .0 ∙ long s) (s .pre .3) (s .pre .2)
 
 pub renew-classes-spec : {M : Type 1} → statement M
 renew-classes-spec =
     tie.close
-    (tie.spec slice-aggregate-fill-classes fill-classes-requires fill-requires same-length returns)
+    (tie.spec
+    slice-aggregate-fill-beside
+    fill-beside-requires
+    fill-requires
+    same-length
+    same-length-2
+    returns)

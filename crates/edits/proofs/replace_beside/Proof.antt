@@ -13,9 +13,11 @@ replace-subtree-requires c κs = search needs
 
 renew-classes-requires : tie.Need-renew-classes-requires
 renew-classes-requires c κs =
-    let s = c .before .before .before .before .before .before .before .before .before .before .before .before .before .before .before .before .before .before .before in let k = c .before .before .before .before .before .before .before .before .before .replace-subtree .ensures in
+    let s = c .before .before .before .before .before .before .before .before .before .before .before .before .before .before .before .before .before .before .before .before in
+    let h = c .before .before .before .before .before .before .before .before .before .before .replace-subtree in
+    let k = h .ensures in
     let t = changed-right (now (s .args .arities)) (now (s .args .row)) (now (s .args .table)) (s .args .n) (now (s .args .v)) (s .args .p) (s .pre .0) _ _ _ k in
-    ((now (s .args .arities), t .2), t .0, omega (arith, k .length-now, s .pre .1 .new), s .pre .1 .old)
+    ((now (s .args .arities), t .2), t .0, omega (arith, k .length-now, s .pre .1 .new), s .pre .1 .old, omega (arith, s .pre .3, h .kept .1 .1 .1 .1 .1 .1 .0))
 
 same-length : tie.Need-same-length
 same-length c = search needs
@@ -31,9 +33,10 @@ same-length-4 c = search needs
 
 returns : tie.Need-returns
 returns c =
-    let s = c .before .before .before .before .before .before .before .before .before .before .before .before .before .before .before .before .before .before .before .before .before .before in let k = c .before .before .before .before .before .before .before .before .before .before .before .before .replace-subtree .ensures in
+    let s = c .before .before .before .before .before .before .before .before .before .before .before .before .before .before .before .before .before .before .before .before .before .before .before .before .before in
+    let k = c .before .before .before .before .before .before .before .before .before .before .before .before .before .before .before .replace-subtree .ensures in
     let t = changed-right (now (s .args .arities)) (now (s .args .row)) (now (s .args .table)) (s .args .n) (now (s .args .v)) (s .args .p) (s .pre .0) _ _ _ k in
-    (k, reclassed (now (s .args .arities)) (now (s .args .row)) (now (s .args .table)) (s .args .n) (now (s .args .v)) (s .args .p) (s .pre .0) (now (s .args .classes)) _ _ _ _ k (c .before .before .renew-classes .ensures (now (s .args .arities)) (t .2)))
+    (k, reclassed (now (s .args .arities)) (now (s .args .row)) (now (s .args .table)) (s .args .n) (now (s .args .v)) (s .args .p) (s .pre .0) (now (s .args .classes)) _ _ _ _ k (c .before .before .before .before .renew-classes .ensures (now (s .args .arities)) (t .2)))
 
 pub replace-beside-spec : {M : Type 1} → statement M
 replace-beside-spec =

@@ -149,6 +149,7 @@ write-replaced-requires c κs =
           classes = omega (arith, same, r .classes);
           replacement = omega (arith, same);
           ends = omega (arith, same, r .ends);
+          heads = r .heads;
         },
       ),
     )

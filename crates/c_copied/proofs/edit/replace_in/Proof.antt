@@ -101,6 +101,7 @@ replace-by-requires c κs =
           classes = r .classes;
           replacement = r .replacement;
           ends = omega (arith, r .ends, c .before .before .before .before .before .before .before .before .before .before .before .before .check-beside .kept);
+          heads = omega (arith, r .heads, c .before .before .before .before .before .before .before .before .before .before .before .before .check-beside .kept);
         },
       ),
     )

@@ -60,8 +60,8 @@ short-room-requires-3 c κs = search needs
 short-room-requires-4 : tie.Need-short-room-requires-4
 short-room-requires-4 c κs = search needs
 
-short-room-requires-5 : tie.Need-short-room-requires-5
-short-room-requires-5 c κs = search needs
+few-heads-requires : tie.Need-few-heads-requires
+few-heads-requires c κs = search needs
 
 slice-aggregate-copy-kept : tie.Need-slice-aggregate-copy-kept
 slice-aggregate-copy-kept c = search needs
@@ -102,7 +102,8 @@ replace-in-requires c κs =
           table = omega (arith, c .before .before .before .before .before .before .before .before .before .before .before .before .before .before .before .before .before .before .before .before .before .before .before .before .before .count .ensures, c .before .before .before .before .before .before .before .before .before .before .before .before .before .before .before .before .before .before .before .before .before .before .before .if2 .left, c .before .before .before .before .before .before .before .before .before .before .before .before .before .before .before .before .before .before .before .before .before .short-room2 .ensures, k .kept);
           classes = omega (arith, c .before .before .before .before .before .before .before .before .before .before .before .before .before .before .before .before .before .before .before .before .before .before .before .before .before .count .ensures, c .before .before .before .before .before .before .before .before .before .before .before .before .before .before .before .before .before .before .before .before .before .before .before .if2 .left, c .before .before .before .before .before .before .before .before .before .before .before .before .before .before .before .before .before .before .before .before .short-room3 .ensures, k .kept);
           replacement = omega (arith, c .before .before .before .before .before .before .before .before .before .before .before .before .before .before .before .before .before .before .before .before .before .before .before .before .before .count .ensures, c .before .before .before .before .before .before .before .before .before .before .before .before .before .before .before .before .before .before .before .before .before .before .before .if2 .left, c .before .before .before .before .before .before .before .before .before .before .before .before .before .before .before .before .before .before .before .short-room4 .ensures);
-          ends = omega (arith, c .before .before .before .before .before .before .before .before .before .before .before .before .before .before .before .before .before .before .before .before .before .before .before .before .before .count .ensures, c .before .before .before .before .before .before .before .before .before .before .before .before .before .before .before .before .before .before .before .before .before .before .before .if2 .left, c .before .before .before .before .before .before .before .before .before .before .before .before .before .before .before .before .before .before .short-room5 .ensures);
+          ends = omega (arith, c .before .before .before .before .before .before .before .before .before .before .before .before .before .before .before .before .before .before .before .before .before .before .before .before .before .count .ensures, c .before .before .before .before .before .before .before .before .before .before .before .before .before .before .before .before .before .before .before .before .before .before .before .if2 .left, c .before .before .before .before .before .before .before .before .before .before .before .before .before .before .before .before .before .before .few-heads .ensures .0);
+          heads = omega (arith, c .before .before .before .before .before .before .before .before .before .before .before .before .before .before .before .before .before .before .few-heads .ensures .0);
         },
       ),
     )
@@ -139,7 +140,7 @@ replace-sized-spec =
     short-room-requires-2
     short-room-requires-3
     short-room-requires-4
-    short-room-requires-5
+    few-heads-requires
     slice-aggregate-copy-kept
     slice-aggregate-copy-kept-2
     slice-aggregate-copy-kept-3

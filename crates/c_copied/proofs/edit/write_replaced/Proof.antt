@@ -78,7 +78,7 @@ module _ (c : tie.After-replace-beside) where
 replace-beside-requires : tie.Need-replace-beside-requires
 replace-beside-requires c κs =
     let s = c .before .before .before .before .before .before .before .before .before .before .before .before .before in
-    (able s, class-room s, omega (arith, s .pre .1 .1 .ends, replace-short (a s) (numbersOf (b s)) (n s) (s .args .v .now) (s .args .p) (s .pre .0)))
+    (able s, class-room s, omega (arith, s .pre .1 .1 .ends, replace-short (a s) (numbersOf (b s)) (n s) (s .args .v .now) (s .args .p) (s .pre .0)), s .pre .1 .1 .heads)
 
 longer-requires : tie.Need-longer-requires
 longer-requires c κs = search needs

@@ -1,4 +1,4 @@
--- `c_classes::clear_heads` meets its contract. The loop's invariant: the heads before h lead nowhere.
+-- `classes::clear_heads` meets its contract. The loop's invariant: the heads before h lead nowhere.
 -- Assumes nothing.
 use Prim.Native.Nat.{ℕ, _≤_, _<_, _-_, _+_}
 use mathlib.Core.Path.{_≡_, refl, _∙_, subst}
@@ -8,9 +8,9 @@ use native.Mathlib.Omega.{arith}
 use borrow.Author.Needs.{needs}
 use lib.ListN.{length, getD, set, length-set}
 use lib.Seq.{getD-set-same, getD-set-other}
 use Rattle.classes.proofs.Places.{zeros-anywhere}
-use Rattle.c_classes.proofs.clear_heads.Statement.{statement}
-use Rattle.c_classes.proofs.clear_heads.Tie as tie
+use Rattle.classes.proofs.clear_heads.Statement.{statement}
+use Rattle.classes.proofs.clear_heads.Tie as tie
 
 abbrev Inv-loop : tie.InvT-loop
 Inv-loop heads₀ h₀ heads h = (h ≤ length heads) × (length heads ≡ length heads₀) × ((k : ℕ) → k < h → getD heads k 0 ≡ 0)
