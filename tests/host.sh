@@ -69,6 +69,12 @@ seek_installed() {
     env -i "$prefix/bin/seek" <examples/programme.txt | diff <(printf 'matches 2\nat 1 4 0:2-3\nat 6 9 0:7-8\n') - &&
         cmp man/seek.1 "$prefix/share/man/man1/seek.1" && grep -q "Sparrowhem $(sed -n 's/^Version: //p' "$prefix/lib/pkgconfig/sparrowhem.pc")" man/seek.1
 }
+# stacked PROGRAM: one that measures the stack, on the rows of the benchmark.
+stacked() { "$@" <$out/rows; }
+thread_by_gcc() {
+    gcc -std=gnu99 -pedantic -O2 -Wall -Wextra -Werror -Iinclude -pthread -o $out/thread tests/host/thread.c target/staticlib/libhost.a
+}
+rows_of_the_benchmark() { $out/shapes >$out/rows; }
 checks_by_gcc() {
     gcc -std=c99 -pedantic -O2 -Wall -Wextra -Werror -Iinclude -o $out/checks_gcc tests/host/checks.c target/staticlib/libhost.a
 }
@@ -83,11 +89,17 @@ try "the texts of refusals, compiled by the kit" kit_cc $out/texts tests/host/te
 try "are those of docs/SCOPE.md" texts_of_scope
 try "the checks, compiled by the kit" kit_cc $out/checks tests/host/checks.c
 counted "the checks" kit_run $out/checks
+try "the rows of the benchmark, compiled by rustc" rustc --edition 2021 -O -D warnings -o $out/shapes tests/host/shapes.rs
+try "are written" rows_of_the_benchmark
+try "the stack that build takes, compiled by the kit" kit_cc $out/stack tests/host/stack.c
+counted "the stack that build takes" stacked kit_run $out/stack
 if [ "$(uname -m)" = x86_64 ]; then
     try "the example, by the machine's own compiler and as installed" example_installed
     try "seek as installed, without the kit, and its man page" seek_installed
     try "the checks, compiled by gcc" checks_by_gcc
     counted "the checks, by gcc" $out/checks_gcc
+    try "build on a small thread, compiled by gcc" thread_by_gcc
+    counted "build on a small thread" stacked $out/thread
 fi
 try "the server, compiled by the kit" kit_cc $out/serve tests/host/serve.c
 try "the model and its inputs, compiled by rustc" rustc --edition 2021 -O -D warnings -o $out/drive tests/host/drive.rs

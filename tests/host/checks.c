@@ -6,6 +6,7 @@
 #include <stdio.h>
 #include <string.h>
 #include <sparrowhem.h>
+#include "painted.h"
 
 enum { GUARD = 33, BIG = 16384 };
 
@@ -443,8 +444,7 @@ static void classes_far_away(void) {
     check("the first of a kind is gone", replace(a, w, t, c, 8, v, 1), 0, -2, 0, 6);
 }
 
-/* What a call takes of the stack: it runs on a painted one. */
-static uint8_t painted[1 << 19];
+/* What a call takes of the stack. */
 static lent run_a, run_w, run_t, run_c, run_q, run_o;
 static size_t run_n;
 
@@ -453,22 +453,6 @@ static void run_build(void) { build(run_a, run_w, run_t, run_c); }
 static void run_find(void) { find(run_a, run_w, run_t, run_c, run_q, run_o); }
 static void run_replace(void) { replace(run_a, run_w, run_t, run_c, run_n, run_o, 0); }
 
-static size_t stack_of(void (*run)(void)) {
-    uint8_t *top = painted + sizeof painted - 64;
-    top -= (uintptr_t)top % 64;
-    memset(painted, 0xA5, sizeof painted);
-    __asm__ volatile("movq %%rsp, %%rbx\n\tmovq %1, %%rsp\n\tcall *%0\n\tmovq %%rbx, %%rsp"
-        :
-        : "r"(run), "r"(top)
-        : "rbx", "rax", "rcx", "rdx", "rsi", "rdi", "r8", "r9", "r10", "r11", "memory", "cc", "xmm0", "xmm1", "xmm2", "xmm3", "xmm4",
-        "xmm5", "xmm6", "xmm7", "xmm8", "xmm9", "xmm10", "xmm11", "xmm12", "xmm13", "xmm14", "xmm15");
-    size_t low = 0;
-    while (low < sizeof painted && painted[low] == 0xA5) {
-        low++;
-    }
-    return (size_t)(top - (painted + low));
-}
-
 static void check_stack(const char *call, void (*run)(void), size_t kib) {
     size_t most = stack_of(run) - stack_of(run_nothing);
     printf("stack: %s of %zu symbols %zu bytes\n", call, run_n, most);
@@ -476,7 +460,7 @@ static void check_stack(const char *call, void (*run)(void), size_t kib) {
 }
 
 /* What the header says, in KiB: build; find and replace in a row of at most 256 symbols; and in the longest. */
-enum { BUILD_KIB = 104, SHORT_KIB = 16, FIND_KIB = 240, REPLACE_KIB = 272 };
+enum { BUILD_KIB = 6, SHORT_KIB = 12, FIND_KIB = 240, REPLACE_KIB = 272 };
 
 /* A row of n symbols; find with S alone; replace of the whole row by one as long; then find once more, with a wrong last class. */
 static void stacks_of(const unsigned *row, size_t n, size_t build_kib, size_t find_kib, size_t replace_kib) {

@@ -91,9 +91,9 @@ module _ (t : List ℕ) (b e a : ℕ) where
         fewer = omega (arith, h .fewer);
         there =
             λ g k.
-                ap (λ (n : ℕ). getD t n 0) (h .there g k)
-                ∙ hop t b g (a - left) (k .holds) (omega (arith, k .enough, h .fewer))
-                ∙ ap (λ (n : ℕ). b + size (first n g)) up;
+            ap (λ (n : ℕ). getD t n 0) (h .there g k)
+            ∙ hop t b g (a - left) (k .holds) (omega (arith, k .enough, h .fewer))
+            ∙ ap (λ (n : ℕ). b + size (first n g)) up;
       }
 
   -- none are left
