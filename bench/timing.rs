@@ -109,8 +109,12 @@ impl Bench {
 
     /// Times an exported function, in the library's column. The yardstick is the inner call.
     pub fn exported(&mut self, names: [&str; 2], rows: &Rows, mut f: impl FnMut(By, usize, usize) -> Answer) {
-        let call = |column, l, k| f(black_box(if column == YARDSTICK { By::Library } else { By::Exported }), l, k);
-        self.measure(names, rows, &[0, YARDSTICK], call);
+        self.pair(names, rows, |yardstick, l, k| f(black_box(if yardstick { By::Library } else { By::Exported }), l, k));
+    }
+
+    /// Times something of the library's, in its column, and beside it the yardstick.
+    pub fn pair(&mut self, names: [&str; 2], rows: &Rows, mut f: impl FnMut(bool, usize, usize) -> Answer) {
+        self.measure(names, rows, &[0, YARDSTICK], |column, l, k| f(column == YARDSTICK, l, k));
     }
 
     /// All columns are timed in every round, one after the other, and each share is the median of the shares in the rounds: what

@@ -68,10 +68,12 @@
 **
 ** STACK
 **
-** All three work on copies on the stack.  sparrowhem_build needs under 104
-** KiB.  sparrowhem_find and sparrowhem_replace need under 16 KiB where the row,
-** and what replaces a part of it, have at most 256 symbols each; for the
-** longest row find needs under 240 KiB, and replace under 272 KiB.
+** sparrowhem_build works on the lent bytes themselves and needs under 6 KiB
+** for any row, whether it answers or refuses: a task with 8 KiB can call it.
+** sparrowhem_find and sparrowhem_replace work on copies on the stack.  They
+** need under 12 KiB where the row, and what replaces a part of it, have at most
+** 256 symbols each; for the longest row find needs under 240 KiB, and replace
+** under 272 KiB.
 **
 ** SINCE VERSION 1
 **

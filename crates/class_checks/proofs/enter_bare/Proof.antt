@@ -1,6 +1,5 @@
 -- `class_checks::enter_bare` meets its contract.
 -- Assumes nothing.
--- the sign
 use Prim.Native.Nat.{ℕ, _+_}
 use mathlib.Core.Path.{_≡_, refl, sym, ap, _∙_, subst}
 use mathlib.Core.List.{List}
@@ -17,6 +16,7 @@ use borrow.Author.Needs.{needs}
 use Rattle.class_checks.proofs.enter_bare.Statement.{statement}
 use Rattle.class_checks.proofs.enter_bare.Tie as tie
 
+-- the sign
 signs : (c : tie.After-known-told) (f : Forest) → Shown f (c .before .before .before .before .before .before .before .before .before .args .row .now) (c .before .before .before .before .before .before .before .before .before .args .table .now) → Signs f (c .before .before .before .before .before .before .before .before .before .args .classes .now) (c .before .before .before .before .before .before .before .before .before .args .p) (Sign (c .before .signed .given .0 .0))
 signs c f h = subst (Signs f (c .before .before .before .before .before .before .before .before .before .args .classes .now) (c .before .before .before .before .before .before .before .before .before .args .p)) (c .before .signed .given .1) (c .before .before .before .sign-of .ensures f h)
 

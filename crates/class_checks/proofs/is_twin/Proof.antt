@@ -1,6 +1,5 @@
 -- `class_checks::is_twin` meets its contract.
 -- Assumes nothing.
--- what the look at position r says of a twin
 use Prim.Native.Nat.{ℕ, _+_, _-_, _<_}
 use mathlib.Core.Path.{_≡_, sym, _∙_, subst}
 use mathlib.Core.List.{List}
@@ -16,6 +15,7 @@ use borrow.Author.Needs.{needs}
 use Rattle.class_checks.proofs.is_twin.Statement.{statement}
 use Rattle.class_checks.proofs.is_twin.Tie as tie
 
+-- what the look at position r says of a twin
 twin : (f : Forest) (c : List ℕ) (p a r : ℕ) (b : Bool) → r + a ≡ getD c a 0 + p → r < p → Says b ((getD c r 0 ≡ r) × SameSign f c p r) → Says b (Twin f c p a)
 twin f c p a r true e m s = record { place = r; there = e; before = m; itself = s .0; sign = s .1 }
 twin f c p a r false e m s = λ t.

@@ -1,6 +1,5 @@
 -- `classes::place_bare` meets its contract.
 -- Assumes nothing.
--- what the children show
 use Prim.Native.Nat.{ℕ, _+_, _-_}
 use mathlib.Core.Path.{sym, subst}
 use native.Mathlib.Omega.{arith}
@@ -16,6 +15,7 @@ use borrow.Author.Needs.{needs}
 use Rattle.classes.proofs.place_bare.Statement.{statement}
 use Rattle.classes.proofs.place_bare.Tie as tie
 
+-- what the children show
 again : (c : tie.After-known-told) (f : Forest) → Shown f (c .before .before .before .before .before .before .before .before .before .args .row .now) (c .before .before .before .before .before .before .before .before .before .args .table .now) → Again f (c .before .before .before .before .before .before .before .before .before .args .p) (c .before .r .given .0 .0)
 again c f k = subst (Seeks f (c .before .before .before .before .before .before .before .before .before .args .p)) (c .before .r .given .1) (c .before .before .before .seek .ensures f k)
 

@@ -1,6 +1,5 @@
 -- `classes::place_in` meets its contract.
 -- Assumes nothing.
--- the place that was found
 use Prim.Native.Nat.{_+_, _≤_}
 use mathlib.Core.Path.{subst}
 use native.Mathlib.Omega.{arith}
@@ -14,6 +13,7 @@ use borrow.Author.Needs.{needs}
 use Rattle.classes.proofs.place_in.Statement.{statement}
 use Rattle.classes.proofs.place_in.Tie as tie
 
+-- the place that was found
 found : (c : tie.After-known-told) (f : Forest) → Shown f (c .before .before .before .before .before .before .before .before .before .before .args .row .now) (c .before .before .before .before .before .before .before .before .before .before .args .table .now) → Again f (c .before .before .before .before .before .before .before .before .before .before .args .p) (c .before .r .given .0 .0)
 found c f k =
     let a = c .before .before .before .before .before .before .before .before .before .before .args in

@@ -1,6 +1,5 @@
 -- `edits::check_place` meets its contract: each test on the way decides the refusals.
 -- Assumes nothing.
--- the new length
 use Prim.Native.Nat.{ℕ, _+_, _-_}
 use mathlib.Core.Path.{sym, _∙_}
 use native.Mathlib.Omega.{arith}
@@ -12,6 +11,7 @@ use borrow.Author.Needs.{needs}
 use Rattle.edits.proofs.check_place.Statement.{statement}
 use Rattle.edits.proofs.check_place.Tie as tie
 
+-- the new length
 abbrev new : tie.Start → ℕ
 new s = s .args .p + s .args .size + (s .args .n - getD (now (s .args .table)) (s .args .p) 0)
 

@@ -1,6 +1,5 @@
 -- `checks::edit::check_replace` meets its contract. What refusals 1 to 10 leave is what the others are told by.
 -- Assumes nothing.
--- what the call is lent
 use Prim.Native.Nat.{ℕ, _+_, _-_}
 use mathlib.Core.Path.{_≡_, sym, ap, _∙_}
 use mathlib.Core.List.{List}
@@ -15,6 +14,7 @@ use borrow.Author.Needs.{needs}
 use Rattle.checks.proofs.edit.check_replace.Statement.{statement}
 use Rattle.checks.proofs.edit.check_replace.Tie as tie
 
+-- what the call is lent
 abbrev a : tie.Start → Alphabet
 a s = alphabetOf (s .args .arities .now)
 

@@ -1,6 +1,5 @@
 -- `checks::given::check_kept` meets its contract. Sizes that are accepted are what the check of row, table and classes asks for.
 -- Assumes nothing.
--- what the check of the sizes says of the lists, and what it leaves where it is sound
 use Prim.Native.Nat.{ℕ, _≤_}
 use mathlib.Core.Path.{_≡_, sym, ap, _∙_}
 use native.Mathlib.Omega.{arith}
@@ -18,6 +17,7 @@ use borrow.Author.Needs.{needs}
 use Rattle.checks.proofs.given.check_kept.Statement.{statement}
 use Rattle.checks.proofs.given.check_kept.Tie as tie
 
+-- what the check of the sizes says of the lists, and what it leaves where it is sound
 module _ (c : tie.After-check-sizes) where
   abbrev n : ℕ
   n = c .before .before .before .before .before .before .args .n

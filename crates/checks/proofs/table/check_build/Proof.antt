@@ -1,6 +1,5 @@
 -- `checks::table::check_build` meets its contract. The checks on the way decide each case.
 -- Assumes nothing.
--- what the first two checks say
 use mathlib.Core.Path.{_≡_, sym, ap, _∙_}
 use lib.ListN.{length}
 use Rattle.rows.specs.Programme.{Programme, alphabetOf, programme, room}
@@ -13,6 +12,7 @@ use borrow.Author.Needs.{needs}
 use Rattle.checks.proofs.table.check_build.Statement.{statement}
 use Rattle.checks.proofs.table.check_build.Tie as tie
 
+-- what the first two checks say
 module _ (c : tie.After-check-sizes) where
   abbrev P : Programme
   P = programme (c .before .before .before .before .before .before .before .before .before .args .row .now) (c .before .before .before .before .before .before .before .before .before .args .table .now) (c .before .before .before .before .before .before .before .before .before .args .classes .now)

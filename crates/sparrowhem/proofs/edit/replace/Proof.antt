@@ -1,6 +1,5 @@
 -- `sparrowhem::replace` meets its contract. Row, table and classes are changed where nothing is refused.
 -- Assumes nothing.
--- what the call is lent
 use mathlib.Core.Path.{_≡_, sym, ap, _∙_}
 use mathlib.Core.List.{List}
 use Prim.Native.Nat.{ℕ}
@@ -22,6 +21,7 @@ use borrow.Author.Needs.{needs}
 use Rattle.sparrowhem.proofs.edit.replace.Statement.{statement}
 use Rattle.sparrowhem.proofs.edit.replace.Tie as tie
 
+-- what the call is lent
 abbrev start : tie.After-check-replace → tie.Start
 start c = c .before .before .before .before .before .before .before .before .before
 

@@ -1,6 +1,5 @@
 -- `sparrowhem::matcher::plain_match` meets its contract: what the checks leave is tried, from the position on.
 -- Assumes nothing.
--- what the call is lent
 use Prim.Native.Nat.{ℕ}
 use mathlib.Core.Path.{_≡_, sym, _∙_, subst}
 use mathlib.Core.List.{List}
@@ -17,6 +16,7 @@ use borrow.Author.Needs.{needs}
 use Rattle.sparrowhem.proofs.matcher.plain_match.Statement.{statement}
 use Rattle.sparrowhem.proofs.matcher.plain_match.Tie as tie
 
+-- what the call is lent
 abbrev start : tie.After-check-plain → tie.Start
 start c = c .before .before .before .before
 

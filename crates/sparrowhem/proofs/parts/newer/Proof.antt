@@ -1,6 +1,5 @@
 -- `sparrowhem::parts::newer` meets its contract. The span that the companion answers is that of the subtree.
 -- Assumes nothing.
--- what the companion says of an answer that is known
 use mathlib.Core.Path.{_≡_, refl, subst}
 use native.Mathlib.Omega.{arith}
 use Rattle.rows.specs.Programme.{alphabetOf, programme}
@@ -12,6 +11,7 @@ use borrow.Author.Needs.{needs}
 use Rattle.sparrowhem.proofs.parts.newer.Statement.{statement}
 use Rattle.sparrowhem.proofs.parts.newer.Tie as tie
 
+-- what the companion says of an answer that is known
 told : (c : tie.After-newer-answer) (r : Newest) → c .newer-answer .result ≡ r
     → (let a = c .before .before .before .before .before .before .before .before .before .args in NewestSays (alphabetOf (a .arities .now)) (programme (a .corrected .now) (a .corrected-table .now) (a .corrected-classes .now)) (programme (a .«record» .now) (a .record-table .now) (a .record-classes .now)) (a .pattern .now) r)
 told c r e = let a = c .before .before .before .before .before .before .before .before .before .args in subst (NewestSays (alphabetOf (a .arities .now)) (programme (a .corrected .now) (a .corrected-table .now) (a .corrected-classes .now)) (programme (a .«record» .now) (a .record-table .now) (a .record-classes .now)) (a .pattern .now)) e (c .newer-answer .ensures)

@@ -1,6 +1,5 @@
 -- `sparrowhem::parts::newer_answer` meets its contract: what the checks leave is searched, the corrected row first.
 -- Assumes nothing.
--- what the call is lent
 use Prim.Native.Nat.{ℕ}
 use mathlib.Core.Path.{_≡_, sym, _∙_, subst}
 use mathlib.Core.List.{List}
@@ -18,6 +17,7 @@ use borrow.Author.Needs.{needs}
 use Rattle.sparrowhem.proofs.parts.newer_answer.Statement.{statement}
 use Rattle.sparrowhem.proofs.parts.newer_answer.Tie as tie
 
+-- what the call is lent
 abbrev start : tie.After-check-newer → tie.Start
 start c =
     let at-before = c .before .before .before .before .before .before .before .before in

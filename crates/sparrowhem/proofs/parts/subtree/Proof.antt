@@ -1,6 +1,5 @@
 -- `sparrowhem::subtree` meets its contract. The span that the companion answers is that of the subtree.
 -- Assumes nothing.
--- the companion has answered with a span
 use Prim.Native.Nat.{_+_, _*_, _<_, _≤_}
 use mathlib.Core.Path.{refl, sym, subst, _∙_}
 use native.Mathlib.Omega.{arith}
@@ -13,6 +12,7 @@ use borrow.Author.Needs.{needs}
 use Rattle.sparrowhem.proofs.parts.subtree.Statement.{statement}
 use Rattle.sparrowhem.proofs.parts.subtree.Tie as tie
 
+-- the companion has answered with a span
 spans : (c : tie.After-known-told)
     → Spans (alphabetOf (c .before .before .before .before .before .before .before .before .args .arities .now)) (programme (c .before .before .before .before .before .before .before .before .args .row .now) (c .before .before .before .before .before .before .before .before .args .table .now) (c .before .before .before .before .before .before .before .before .args .classes .now)) (c .before .before .before .before .before .before .before .before .args .position) (c .before .begin .given .0 .0) (c .before .begin .given .0 .1 .0)
 spans c =

@@ -1,6 +1,5 @@
 -- `sparrowhem::subtree_answer` meets its contract. The entry at the position is the row's, since the table is right.
 -- Assumes nothing.
--- nothing is refused: the position lies in the row, whose table is right
 use mathlib.Core.Path.{sym, _∙_}
 use native.Mathlib.Omega.{arith}
 use Rattle.rows.specs.Programme.{alphabetOf, programme}
@@ -11,6 +10,7 @@ use borrow.Author.Needs.{needs}
 use Rattle.sparrowhem.proofs.parts.subtree_answer.Statement.{statement}
 use Rattle.sparrowhem.proofs.parts.subtree_answer.Tie as tie
 
+-- nothing is refused: the position lies in the row, whose table is right
 stands : (c : tie.After-enum-told) → Stands (alphabetOf (c .before .before .before .before .before .before .before .args .arities .now)) (programme (c .before .before .before .before .before .before .before .args .row .now) (c .before .before .before .before .before .before .before .args .table .now) (c .before .before .before .before .before .before .before .args .classes .now)) (c .before .before .before .before .before .before .before .args .position)
 stands c =
     let a = c .before .before .before .before .before .before .before .args in

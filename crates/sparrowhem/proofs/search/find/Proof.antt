@@ -1,6 +1,5 @@
 -- `sparrowhem::search::find` meets its contract: what the checks leave is searched.
 -- Assumes nothing.
--- what the call is lent
 use mathlib.Core.Path.{_≡_, sym, _∙_}
 use mathlib.Core.List.{List}
 use Prim.Native.Nat.{ℕ}
@@ -13,6 +12,7 @@ use borrow.Author.Needs.{needs}
 use Rattle.sparrowhem.proofs.search.find.Statement.{statement}
 use Rattle.sparrowhem.proofs.search.find.Tie as tie
 
+-- what the call is lent
 abbrev start : tie.After-check-search → tie.Start
 start c = c .before .before .before .before .before .before .before
 

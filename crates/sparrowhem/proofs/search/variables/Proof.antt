@@ -1,6 +1,5 @@
 -- `sparrowhem::search::variables` meets its contract: what the check leaves is matched.
 -- Assumes nothing.
--- what the call is lent
 use mathlib.Core.Path.{_≡_, sym, _∙_}
 use mathlib.Core.List.{List}
 use Prim.Native.Nat.{ℕ}
@@ -14,6 +13,7 @@ use borrow.Author.Needs.{needs}
 use Rattle.sparrowhem.proofs.search.variables.Statement.{statement}
 use Rattle.sparrowhem.proofs.search.variables.Tie as tie
 
+-- what the call is lent
 abbrev start : tie.After-check-variables → tie.Start
 start c = c .before .before .before .before .before .before .before
 

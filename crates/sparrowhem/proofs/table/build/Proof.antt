@@ -1,6 +1,5 @@
 -- `sparrowhem::build` meets its contract. The table is filled where nothing is refused.
 -- Assumes nothing.
--- what the call is lent
 use mathlib.Core.Path.{_≡_, sym, ap, ap₂, _∙_}
 use Rattle.rows.specs.Programme.{Alphabet, Programme, alphabetOf, programme}
 use Rattle.rows.specs.Parse.{table}
@@ -15,6 +14,7 @@ use borrow.Author.Needs.{needs}
 use Rattle.sparrowhem.proofs.table.build.Statement.{statement}
 use Rattle.sparrowhem.proofs.table.build.Tie as tie
 
+-- what the call is lent
 abbrev start : tie.After-check-build → tie.Start
 start c = c .before .before .before .before .before .before .before
 
