@@ -72,8 +72,8 @@
 ** for any row, whether it answers or refuses: a task with 8 KiB can call it.
 ** sparrowhem_find and sparrowhem_replace work on copies on the stack.  They
 ** need under 12 KiB where the row, and what replaces a part of it, have at most
-** 256 symbols each; for the longest row find needs under 240 KiB, and replace
-** under 272 KiB.
+** 256 symbols each; for the longest row find needs under 192 KiB, and replace
+** under 228 KiB.
 **
 ** SINCE VERSION 1
 **

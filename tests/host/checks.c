@@ -460,7 +460,7 @@ static void check_stack(const char *call, void (*run)(void), size_t kib) {
 }
 
 /* What the header says, in KiB: build; find and replace in a row of at most 256 symbols; and in the longest. */
-enum { BUILD_KIB = 6, SHORT_KIB = 12, FIND_KIB = 240, REPLACE_KIB = 272 };
+enum { BUILD_KIB = 6, SHORT_KIB = 12, FIND_KIB = 192, REPLACE_KIB = 228 };
 
 /* A row of n symbols; find with S alone; replace of the whole row by one as long; then find once more, with a wrong last class. */
 static void stacks_of(const unsigned *row, size_t n, size_t build_kib, size_t find_kib, size_t replace_kib) {

@@ -1,3 +1,4 @@
 pub mod Building
+pub mod Classing
 pub mod Passing
 pub mod Replacing

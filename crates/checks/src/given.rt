@@ -1,42 +1,33 @@
 // What every call refuses that is lent a row with what stands beside it.
 ghost use mathlib.Core.Path.{_≡_};
-ghost use mathlib.Core.List.{List};
-ghost use Prim.Native.Nat.{ℕ, _≤_};
+ghost use Prim.Native.Nat.{_≤_};
 ghost use lib.ListN.{length};
 ghost use Rattle.rows.specs.Programme.{alphabetOf, programme};
 ghost use Rattle.rows.specs.Refusals.{_then_, keeps, symbols, fresh, classed, kept, given};
 ghost use Rattle.rows.specs.declared.Kept.{Kept};
 ghost use Rattle.rows.specs.declared.Refusal.{Refusal};
-ghost use Rattle.rows.specs.declared.Keeping.the-variants.{Sound};
-ghost use Rattle.tables.specs.Given.{Sized, Right};
+ghost use Rattle.tables.specs.Given.{Sized};
 use rows::Check;
 use rows::Keeping;
 use rows::Refusal;
 
-// What was found of row and table, which is refusals 7 to 10, and then 62.
-fn then_classes(found: Keeping, row: &[u16], table: &[u16], classes: &[u16]) -> Keeping
-    requires { ⌜ (found ≡ Sound → ((A : List ℕ) × Right A (now row) (now table))) × (length (now row) ≤ length (now classes)) ⌝ }
-    ensures { λ r. ⌜ ((A : List ℕ) → Sized (now (row .entry)) (now (table .entry)) → ((whose : Kept → Refusal) → keeps whose found ≡ (symbols whose A (now (row .entry)) then fresh whose A (now (row .entry)) (now (table .entry)))) → (whose : Kept → Refusal) → keeps whose r ≡ (symbols whose A (now (row .entry)) then fresh whose A (now (row .entry)) (now (table .entry)) then classed whose A (now (row .entry)) (now (classes .entry)))) ⌝ }
-{
-    let Keeping::Sound = found else {
-        return found;
-    };
-    class_checks::check_classes(row, table, classes)
-}
-
-// Refusals 7 to 10, then 62: a row, its table and its classes, which have room for it. `standing` has room for the row's ends.
+// Refusals 7 to 10, then 62: a row, its table and its classes, which have room for it. `room` is for the row's ends, and
+// then for the links of its classes.
 pub fn check_beside(
     arities: &[u16],
     row: &[u16],
     table: &[u16],
     classes: &[u16],
-    standing: &mut [u16],
+    room: &mut [u16],
 ) -> Keeping
-    requires { ⌜ Sized (now row) (now table) × (length (now row) ≤ length (now classes)) × (length (now row) ≤ length (now standing)) ⌝ }
+    requires { ⌜ Sized (now row) (now table) × (length (now row) ≤ length (now classes)) × (length (now row) ≤ length (now room)) ⌝ }
     ensures { λ r. ⌜ ((whose : Kept → Refusal) → keeps whose r ≡ (symbols whose (now (arities .entry)) (now (row .entry)) then fresh whose (now (arities .entry)) (now (row .entry)) (now (table .entry)) then classed whose (now (arities .entry)) (now (row .entry)) (now (classes .entry)))) ⌝ }
 {
-    let found = tables::check_beside(arities, row, table, standing);
-    then_classes(found, row, table, classes)
+    let found = tables::check_beside(arities, row, table, room);
+    let Keeping::Sound = found else {
+        return found;
+    };
+    class_checks::check_beside(row, table, classes, room)
 }
 
 // The same. A shorter row takes less room.
@@ -45,7 +36,10 @@ fn check_lists(arities: &[u16], row: &[u16], table: &[u16], classes: &[u16]) -> 
     ensures { λ r. ⌜ ((whose : Kept → Refusal) → keeps whose r ≡ (symbols whose (now (arities .entry)) (now (row .entry)) then fresh whose (now (arities .entry)) (now (row .entry)) (now (table .entry)) then classed whose (now (arities .entry)) (now (row .entry)) (now (classes .entry)))) ⌝ }
 {
     let found = tables::check_ends(arities, row, table);
-    then_classes(found, row, table, classes)
+    let Keeping::Sound = found else {
+        return found;
+    };
+    class_checks::check_classes(row, table, classes)
 }
 
 // Refusals 4 to 10, then 62: a row, the first n places of its buffer, with what stands beside it.

@@ -110,3 +110,10 @@ pub scan-fine : (A w t c : List ℕ) (b : Bool) → Right A w t → length w ≤
     → (whose : Kept → Refusal) → Fine ≡ classed whose A w c
 scan-fine A w t c b r long k e whose =
     sym (starts-fine whose A w c (subst (λ (x : Bool). Grants x (Starts A w c)) e (scan-grants A w t c b r long k)))
+
+-- the same over links that are lent, and cleared
+pub links-ready : (heads links own : List ℕ) (m n : ℕ) → (0 < n) × (n ≤ 16384) → Zeros n heads → m ≤ length own
+    → (length links ≡ length own) × ((h : ℕ) → getD links h 0 ≡ 0)
+    → Space heads links m × ((h : ℕ) → getD heads h 0 ≡ 0) × ((h : ℕ) → getD links h 0 ≡ 0)
+links-ready heads links own m n some a fits b =
+    (record { some = omega (arith, a .0, some); most = omega (arith, a .0, some); places = omega (arith, b .0) }, a .1, b .1)

@@ -475,3 +475,55 @@ pub fn check_classes(row: &[u16], table: &[u16], classes: &[u16]) -> Keeping
         Keeping::Unsound(_) => answer_far(row, table, classes, Asked::First),
     }
 }
+
+// The answer to what is asked, for a row that is not short, over links that are lent. As `answer_far` it is asked twice.
+fn answer_lent(
+    row: &[u16],
+    table: &[u16],
+    classes: &[u16],
+    links: &mut [u16],
+    asked: Asked,
+) -> Keeping
+    requires { ⌜ ((A : List ℕ) × Right A (now row) (now table)) ⌝ }
+    requires { ⌜ (length (now row) ≤ length (now classes)) × (length (now row) ≤ length (now links)) ⌝ }
+    ensures { λ r. ⌜ ((A : List ℕ) → Right A (now (row .entry)) (now (table .entry)) → Judges A (now (row .entry)) (now (classes .entry)) asked r) ⌝ }
+{
+    classes::clear_heads(links);
+    if row.len() <= tables::FAIR {
+        let mut heads = fair_places();
+        return answer_beside(row, table, classes, &mut heads, links, asked);
+    }
+    if row.len() <= tables::MIDDLE {
+        let mut heads = middle_places();
+        return answer_beside(row, table, classes, &mut heads, links, asked);
+    }
+    let mut heads = long_places();
+    answer_beside(row, table, classes, &mut heads, links, asked)
+}
+
+// Refusal 62 for a short row, over links that are lent.
+fn check_short(row: &[u16], table: &[u16], classes: &[u16], links: &mut [u16]) -> Keeping
+    requires { ⌜ ((A : List ℕ) × Right A (now row) (now table)) ⌝ }
+    requires { ⌜ (length (now row) ≤ length (now classes)) × (length (now row) ≤ length (now links)) ⌝ }
+    ensures { λ r. ⌜ ((A : List ℕ) → Right A (now (row .entry)) (now (table .entry)) → (whose : Kept → Refusal) → keeps whose r ≡ classed whose A (now (row .entry)) (now (classes .entry))) ⌝ }
+{
+    classes::clear_heads(links);
+    let mut heads = short_places();
+    check_near(row, table, classes, &mut heads, links)
+}
+
+// Refusal 62. The links are put into a room that is lent, which is as long as the row at least.
+pub fn check_beside(row: &[u16], table: &[u16], classes: &[u16], room: &mut [u16]) -> Keeping
+    requires { ⌜ ((A : List ℕ) × Right A (now row) (now table)) ⌝ }
+    requires { ⌜ (length (now row) ≤ length (now classes)) × (length (now row) ≤ length (now room)) ⌝ }
+    ensures { λ r. ⌜ ((A : List ℕ) → Right A (now (row .entry)) (now (table .entry)) → (whose : Kept → Refusal) → keeps whose r ≡ classed whose A (now (row .entry)) (now (classes .entry))) ⌝ }
+{
+    let n = row.len();
+    if n <= tables::SHORT {
+        return check_short(row, table, classes, &mut room[..n]);
+    }
+    match answer_lent(row, table, classes, &mut room[..n], Asked::Right) {
+        Keeping::Sound => Keeping::Sound,
+        Keeping::Unsound(_) => answer_lent(row, table, classes, &mut room[..n], Asked::First),
+    }
+}
