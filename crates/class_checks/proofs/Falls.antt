@@ -3,14 +3,16 @@
 use Prim.Native.Nat.{ℕ, zero, suc, _+_, _-_, _≤_, _<_}
 use mathlib.Core.Path.{_≡_, sym, ap₂, subst}
 use mathlib.Core.List.{List}
+use mathlib.Core.Bool.{Bool, true}
 use native.Mathlib.Decide.{decLt}
+use native.Mathlib.Nat.{add-zero}
 use native.Mathlib.Omega.{arith}
 use lib.ListN.{length, getD, set}
 use lib.Seq.{getD-set-same, getD-set-other}
 use Rattle.rows.specs.Tree.{Forest, size}
 use Rattle.rows.specs.Classes.{FirstEqual, SameSign}
 use Rattle.classes.specs.Shown.{Shown, mixed, mixedAll, signOf, shelf, Bare}
-use Rattle.class_checks.specs.Repeats.{Local, Repeat, New, Falls, Falls.here, Falls.next, Falling, Space, Entered, Reached, Unbare, Run}
+use Rattle.class_checks.specs.Repeats.{Grants, Local, Repeat, New, Falls, Falls.here, Falls.next, Falling, Space, Entered, Reached, Unbare, Rooted, Run, Along}
 use Rattle.classes.proofs.Signs.{shelf-small}
 use Rattle.class_checks.proofs.Parts.{end-fits}
 use Rattle.class_checks.proofs.Skip.{local-none, local-leader, skipped, skipped-follow}
@@ -227,3 +229,59 @@ pub reached-end : {f : Forest} {c heads l : List ℕ} {m last p : ℕ} → p ≡
 reached-end {f} {c} {heads} {l} {m} {last} {p} e z k =
     let all = subst (Entered f c heads l m) e (entered-next z k) in
     bare-first f c (subst (Local f c) e (z .rightly)) (all .new)
+
+pub along-none : (t c : List ℕ) (p n : ℕ) (r : Rooted t c p) → r .length-of ≡ n → Along t c n p p
+along-none t c p n r e = record { run = run-none t c p (r .itself); root = r; row = e }
+
+-- one position more, and k
+pub along-more : {t c : List ℕ} {n p q : ℕ} → Along t c n p q → q + 1 < getD t q 0 → getD c (q + 1) 0 ≡ q + 1 → Along t c n p (q + 1)
+along-more {t} {c} {n} {p} {q} a h e =
+    let r = a .root in
+    record {
+      run = run-more (a .run) h e;
+      root =
+          record {
+            length-of = r .length-of;
+            most = r .most;
+            table = r .table;
+            entries = r .entries;
+            ends = r .ends;
+            inside = omega (arith, h, r .ends q (r .inside));
+            itself = e;
+          };
+      row = a .row;
+    }
+
+pub along-many : {t c : List ℕ} {n p q : ℕ} (k : ℕ) → Along t c n p q → ((i : ℕ) → i < k → q + i + 1 < getD t (q + i) 0)
+    → ((i : ℕ) → i < k → getD c (q + 1 + i) 0 ≡ q + 1 + i) → Along t c n p (q + k)
+along-many {t} {c} {n} {p} {q} zero a h e = subst (Along t c n p) (sym (add-zero q)) a
+along-many {t} {c} {n} {p} {q} (suc k) a h e =
+    let up : q + k + 1 ≡ q + suc k = omega arith in
+    let on : q + 1 + k ≡ q + k + 1 = omega arith in
+    subst (Along t c n p) up
+    (along-more (along-many k a (λ i m. h i (omega arith)) (λ i m. e i (omega arith))) (h k (omega arith)) (subst (λ (x : ℕ). getD c x 0 ≡ x) on (e k (omega arith))))
+
+-- one run after another
+pub run-then : {t c : List ℕ} {p q r : ℕ} → Run t c p q → Run t c q r → Run t c p r
+run-then {t} {c} {p} {q} {r} a b =
+    record {
+      from = omega (arith, a .from, b .from);
+      itself = λ x h m. go (λ (y : ℕ). getD c y 0 ≡ y) x (decLt x q) (λ l. a .itself x h (omega arith)) (λ l. b .itself x l m);
+      below = λ x h m. go (λ (y : ℕ). y + 1 < getD t y 0) x (decLt x q) (λ l. a .below x h l) (λ l. b .below x l m);
+    }
+  where
+    go : (P : ℕ → Type 0) (x : ℕ) → Dec (x < q) → (x < q → P x) → (q ≤ x → P x) → P x
+    go P x (yes l) f g = f l
+    go P x (no l) f g = g (omega arith)
+
+-- a yes that was asked for
+pub granted : {X : Type 0} (b : Bool) → Grants b X → b ≡ true → X
+granted {X} b g e = subst (λ (x : Bool). Grants x X) e g
+
+-- what holds of all before k, and of k
+pub one-more : (P : ℕ → Type 0) (k : ℕ) → ((x : ℕ) → x < k → P x) → P k → (x : ℕ) → x < k + 1 → P x
+one-more P k all own x h = go (decLt x k)
+  where
+    go : Dec (x < k) → P x
+    go (yes l) = all x l
+    go (no l) = let e : k ≡ x = omega arith in subst P e own

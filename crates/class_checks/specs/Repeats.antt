@@ -131,6 +131,12 @@ pub record Run (t c : List ℕ) (p r : ℕ) : Type 0 where
   pub itself : (x : ℕ) → p ≤ x → x ≤ r → getD c x 0 ≡ x
   pub below : (x : ℕ) → p ≤ x → x < r → x + 1 < getD t x 0
 
+-- such a run has come to q, in a row of n symbols
+pub record Along (t c : List ℕ) (n p q : ℕ) : Type 0 where
+  pub run : Run t c p q
+  pub root : Rooted t c q
+  pub row : root .length-of ≡ n
+
 -- from `start` on, which names itself: the next position that is bare, and the next behind it that names itself, or the row's end
 abbrev pub Nexts : Forest → List ℕ → ℕ → ℕ → Next → Type 0
 Nexts f c n start (After last r) = (start < r) × (r ≤ n) × (r < n → getD c r 0 ≡ r) × (start ≤ last) × Reached f c last r × Unbare f c start last

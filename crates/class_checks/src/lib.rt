@@ -1,6 +1,7 @@
 // The classes of a row, checked: a right list is told by what it shows, and only for another one are the classes filled in anew.
 ghost use mathlib.Core.Path.{_≡_};
 ghost use mathlib.Core.List.{List};
+ghost use mathlib.Core.Bool.{true};
 ghost use Prim.Native.Nat.{ℕ, _+_, _-_, _≤_, _<_};
 ghost use lib.ListN.{length, getD, set, take};
 ghost use Rattle.rows.specs.Tree.{Forest, size};
@@ -12,7 +13,7 @@ ghost use Rattle.rows.specs.declared.Refusal.{Refusal};
 ghost use Rattle.tables.specs.Given.{Right};
 ghost use Rattle.classes.specs.Shown.{Shown, Seen, Says};
 ghost use Rattle.classes.specs.Lasts.{fewHeads};
-ghost use Rattle.class_checks.specs.Repeats.{Grants, Judges, SamePart, Repeat, Skips, Twin, Signs, Space, Unseen, Entered, Reached, Rooted, Run, Nexts};
+ghost use Rattle.class_checks.specs.Repeats.{Grants, Judges, SamePart, Repeat, Skips, Twin, Signs, Space, Unseen, Entered, Reached, Rooted, Run, Along, Nexts};
 use classes::mix;
 use classes::shelf_of;
 use classes::symbol_at;
@@ -257,22 +258,101 @@ fn enter_bare(
     false
 }
 
-// From p, which names itself, on to the last position of those that stand one below the other and name themselves.
-fn run_from(table: &[u16], classes: &[u16], p: usize) -> usize
-    requires { ⌜ Rooted (now table) (now classes) p ⌝ }
+// Has q, which names itself, the next position below it, and does that name itself too?
+fn leads_on(table: &[u16], classes: &[u16], q: usize) -> bool
+    requires { ⌜ Rooted (now table) (now classes) q ⌝ }
+    ensures { λ r. ⌜ Grants r ((q + 1 < getD (now (table .entry)) q 0) × (getD (now (classes .entry)) (q + 1) 0 ≡ q + 1)) ⌝ }
+{
+    let next = q + 1;
+    if wide(table[q]) <= next {
+        return false;
+    }
+    if wide(classes[next]) != next {
+        return false;
+    }
+    true
+}
+
+// From q, which names itself, on to the last position of those that stand one below the other and name themselves.
+fn run_singly(table: &[u16], classes: &[u16], q: usize) -> usize
+    requires { ⌜ Rooted (now table) (now classes) q ⌝ }
+    ensures { λ r. ⌜ Run (now (table .entry)) (now (classes .entry)) q r ⌝ }
+{
+    let mut r = q;
+    loop {
+        if leads_on(table, classes, r) {} else {
+            return r;
+        }
+        r += 1;
+    }
+}
+
+// The positions that are looked at at once, without a way out of them: the compiler makes vector instructions of that.
+const STRIDE: usize = 32;
+
+// Has each of a stride of positions from q on something below it?
+fn all_deep(table: &[u16], q: usize) -> bool
+    requires { ⌜ (q + 32 ≤ length (now table)) × (q ≤ 16384) ⌝ }
+    ensures { λ r. ⌜ (r ≡ true → (k : ℕ) → k < 32 → q + k + 1 < getD (now (table .entry)) (q + k) 0) ⌝ }
+{
+    let next = (q + 1) as u16;
+    let mut other: u16 = 0;
+    for k in 0..STRIDE {
+        if table[q + k] <= next + k as u16 {
+            other = 1;
+        }
+    }
+    other == 0
+}
+
+// Does each of a stride of positions from q on name itself?
+fn all_own(classes: &[u16], q: usize) -> bool
+    requires { ⌜ (q + 32 ≤ length (now classes)) × (q ≤ 16384) ⌝ }
+    ensures { λ r. ⌜ (r ≡ true → (k : ℕ) → k < 32 → getD (now (classes .entry)) (q + k) 0 ≡ q + k) ⌝ }
+{
+    let first = q as u16;
+    let mut other: u16 = 0;
+    for k in 0..STRIDE {
+        if classes[q + k] != first + k as u16 {
+            other = 1;
+        }
+    }
+    other == 0
+}
+
+// The same by whole strides, as far as those go, in a row of n symbols.
+fn run_strides(table: &[u16], classes: &[u16], q: usize, n: usize) -> usize
+    requires { ⌜ ((z : Rooted (now table) (now classes) q) × (z .length-of ≡ n)) ⌝ }
+    ensures { λ r. ⌜ Along (now (table .entry)) (now (classes .entry)) n q r ⌝ }
+{
+    let mut r = q;
+    while r + STRIDE < n {
+        if all_deep(table, r) {} else {
+            return r;
+        }
+        if all_own(classes, r + 1) {} else {
+            return r;
+        }
+        r += STRIDE;
+    }
+    r
+}
+
+// From p, which names itself, on to the last position of those that stand one below the other and name themselves, in a row of n
+// symbols. Most often the first two tell that there are no more.
+fn run_from(table: &[u16], classes: &[u16], p: usize, n: usize) -> usize
+    requires { ⌜ ((z : Rooted (now table) (now classes) p) × (z .length-of ≡ n)) ⌝ }
     ensures { λ r. ⌜ Run (now (table .entry)) (now (classes .entry)) p r ⌝ }
 {
-    let mut q = p;
-    loop {
-        let next = q + 1;
-        if wide(table[q]) <= next {
-            return q;
-        }
-        if wide(classes[next]) != next {
-            return q;
-        }
-        q = next;
+    if leads_on(table, classes, p) {} else {
+        return p;
     }
+    let next = p + 1;
+    if leads_on(table, classes, next) {} else {
+        return next;
+    }
+    let q = run_strides(table, classes, next, n);
+    run_singly(table, classes, q)
 }
 
 // The next bare position, from `last` on, which names itself. Subtrees that were there before are skipped.
@@ -282,7 +362,7 @@ fn next_bare(row: &[u16], table: &[u16], classes: &[u16], last: usize) -> Next
     requires { ⌜ ((f : Forest) → Shown f (now row) (now table) → Reached f (now classes) last (last + 1)) ⌝ }
     ensures { λ r. ⌜ ((f : Forest) → Shown f (now (row .entry)) (now (table .entry)) → Nexts f (now (classes .entry)) (length (now (row .entry))) last r) ⌝ }
 {
-    let mut leader = run_from(table, classes, last);
+    let mut leader = run_from(table, classes, last, row.len());
     let mut at = leader + 1;
     while at < row.len() {
         let q = wide(classes[at]);

@@ -115,7 +115,7 @@ abbrev pub fewHeads : ℕ
 fewHeads = 576
 
 abbrev pub manyHeads : ℕ
-manyHeads = 1984
+manyHeads = 2560
 
 -- room for drawers: those for leaves, and some more
 pub record Drawers (heads : List ℕ) : Type 0 where

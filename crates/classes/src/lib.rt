@@ -314,7 +314,7 @@ fn fill_over(row: &[u16], table: &[u16], classes: &mut [u16], heads: &mut [u16])
 // A row of at most so many symbols does with few heads.
 pub const SHORT: usize = 512;
 
-// Heads that lead nowhere, few and many. Both together take 5 KiB.
+// Heads that lead nowhere, few and many: 5 KiB at most.
 pub const FEW: usize = 576;
 
 pub fn few_heads() -> [u16; FEW]
@@ -323,7 +323,7 @@ pub fn few_heads() -> [u16; FEW]
     [0u16; FEW]
 }
 
-pub const MANY: usize = 1_984;
+pub const MANY: usize = 2_560;
 
 pub fn many_heads() -> [u16; MANY]
     ensures { λ r. ⌜ (manyHeads ≡ length r) × ((h : ℕ) → getD r h 0 ≡ 0) ⌝ }

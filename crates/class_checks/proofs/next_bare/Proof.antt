@@ -1,7 +1,7 @@
 -- `class_checks::next_bare` meets its contract.
 -- Assumes nothing.
 use Prim.Native.Nat.{ℕ, _+_, _-_, _≤_, _<_}
-use mathlib.Core.Path.{_≡_, sym, _∙_, subst}
+use mathlib.Core.Path.{_≡_, sym, _∙_, subst, refl}
 use native.Mathlib.Omega.{arith}
 use lib.ListN.{length}
 use Rattle.rows.specs.Tree.{Forest}
@@ -43,16 +43,18 @@ run-from-requires : tie.Need-run-from-requires Inv-loop μ-loop
 run-from-requires c κs =
     let s = c .before .before .before in
     let z = s .pre .0 in
-    let a = s .args in
-    record {
-      length-of = length (a .row .now);
-      most = z .shown .most;
-      table = z .shown .fits;
-      entries = z .room;
-      ends = λ x h. end-fits (z .shown) x h .1;
-      inside = s .pre .1 .0;
-      itself = s .pre .1 .1 (z .forest) (z .shown) .itself;
-    }
+    let a = s .args in (
+      record {
+        length-of = length (a .row .now);
+        most = z .shown .most;
+        table = z .shown .fits;
+        entries = z .room;
+        ends = λ x h. end-fits (z .shown) x h .1;
+        inside = s .pre .1 .0;
+        itself = s .pre .1 .1 (z .forest) (z .shown) .itself;
+      },
+      refl,
+    )
 
 add-at : tie.Need-add-at Inv-loop μ-loop
 add-at c =

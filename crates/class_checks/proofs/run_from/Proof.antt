@@ -1,85 +1,54 @@
 -- `class_checks::run_from` meets its contract.
 -- Assumes nothing.
-use Prim.Native.Nat.{_+_, _-_, _<_}
-use mathlib.Core.Path.{sym, _∙_}
-use native.Mathlib.Omega.{arith}
-use lib.ListN.{length, getD}
-use Rattle.class_checks.specs.Repeats.{Rooted, Run}
-use Rattle.class_checks.proofs.Falls.{run-more, run-none}
+use Prim.Native.Nat.{_+_}
+use Rattle.class_checks.specs.Repeats.{Along}
+use Rattle.class_checks.proofs.Falls.{run-none, run-then, along-none, along-more, granted}
 use borrow.Author.Needs.{needs}
 use Rattle.class_checks.proofs.run_from.Statement.{statement}
 use Rattle.class_checks.proofs.run_from.Tie as tie
 
-abbrev Inv-loop : tie.InvT-loop
-Inv-loop table classes p q₀ q = Run table classes p q × ((z : Rooted table classes p) → q < z .length-of)
+-- the next position is below p
+once : (c : tie.Then1) → (let a = c .before .before .before .before .args in Along (a .table .now) (a .classes .now) (a .n) (a .p) (a .p + 1))
+once c =
+    let s = c .before .before .before .before in
+    let a = s .args in
+    let k = c .before .leads-on in
+    let on = granted (k .result) (k .ensures) (c .if1 .taken) in
+    along-more (along-none (a .table .now) (a .classes .now) (a .p) (a .n) (s .pre .0) (s .pre .1)) (on .0) (on .1)
 
-abbrev μ-loop : tie.MeasureT-loop
-μ-loop table classes p q₀ q = length table - q
+leads-on-requires : tie.Need-leads-on-requires
+leads-on-requires c κs = search needs
 
--- the next position stands below q, in the row
-next-in : (c : tie.Else1 Inv-loop μ-loop) → (c .before .before .before .loop .q + 1 < getD (c .before .before .before .before .before .before .args .table .now) (c .before .before .before .loop .q) 0) × (c .before .before .before .loop .q + 1 < c .before .before .before .before .before .before .pre .length-of)
-next-in c =
-    let z = c .before .before .before .before .before .before .pre in
-    let l = c .before .before .before .loop in
-    let low : l .q + 1 < getD (c .before .before .before .before .before .before .args .table .now) (l .q) 0 = omega (arith, c .if1 .left, c .before .wide .ensures) in
-    (low, omega (arith, low, z .ends (l .q) (l .inv .1 z)))
+returns : tie.Need-returns
+returns c = let s = c .before .before .before .before in run-none (s .args .table .now) (s .args .classes .now) (s .args .p) (s .pre .0 .itself)
 
-loop-holds : tie.Need-loop-holds Inv-loop μ-loop
-loop-holds c = let s = c .before .before in (run-none (s .args .table .now) (s .args .classes .now) (s .args .p) (s .pre .itself), λ z. z .inside)
+add-next : tie.Need-add-next
+add-next c = search needs
 
-add-next : tie.Need-add-next Inv-loop μ-loop
-add-next c = let z = c .before .before .before .pre in omega (arith, c .loop .inv .1 z, z .most)
+leads-on-requires-2 : tie.Need-leads-on-requires-2
+leads-on-requires-2 c κs = once c .root
 
-mul-wide : tie.Need-mul-wide Inv-loop μ-loop
-mul-wide c = let z = c .before .before .before .pre in omega (arith, c .loop .inv .1 z, z .most)
+returns-2 : tie.Need-returns-2
+returns-2 c = once (c .before .before) .run
 
-shared-slice-read-wide : tie.Need-shared-slice-read-wide Inv-loop μ-loop
-shared-slice-read-wide c = let z = c .before .before .before .before .pre in omega (arith, c .before .loop .inv .1 z, z .table)
+run-strides-requires : tie.Need-run-strides-requires
+run-strides-requires c κs = let o = once (c .before .before) in (o .root, o .row)
 
-wide-requires : tie.Need-wide-requires Inv-loop μ-loop
-wide-requires c κs = search needs
+run-singly-requires : tie.Need-run-singly-requires
+run-singly-requires c κs = search needs
 
-returns : tie.Need-returns Inv-loop μ-loop
-returns c = c .before .before .before .loop .inv .0
-
-mul-wide-2 : tie.Need-mul-wide-2 Inv-loop μ-loop
-mul-wide-2 c = omega (arith, next-in c, c .before .before .before .before .before .before .pre .most)
-
-shared-slice-read-wide-2 : tie.Need-shared-slice-read-wide-2 Inv-loop μ-loop
-shared-slice-read-wide-2 c = omega (arith, next-in (c .before), c .before .before .before .before .before .before .before .pre .entries)
-
-wide-requires-2 : tie.Need-wide-requires-2 Inv-loop μ-loop
-wide-requires-2 c κs = search needs
-
-returns-2 : tie.Need-returns-2 Inv-loop μ-loop
-returns-2 c = c .before .before .before .before .before .before .loop .inv .0
-
-loop-less : tie.Need-loop-less Inv-loop μ-loop
-loop-less c = let z = c .before .before .before .before .before .before .before .before .before .pre in omega (arith, c .before .before .before .before .before .before .loop .inv .1 z, z .table)
-
-loop-again : tie.Need-loop-again Inv-loop μ-loop
-loop-again c =
-    let k = next-in (c .before .before .before) in
-    let l = c .before .before .before .before .before .before .loop in (
-      run-more (l .inv .0) (k .0) (sym (c .before .wide2 .ensures) ∙ c .if2 .left),
-      λ z. let low = z .ends (l .q) (l .inv .1 z) in omega (arith, k .0),
-    )
+returns-3 : tie.Need-returns-3
+returns-3 c = run-then (once (c .before .before .before .before) .run) (run-then (c .before .run-strides .ensures .run) (c .run-singly .ensures))
 
 pub run-from-spec : {M : Type 1} → statement M
 run-from-spec =
     tie.close
     (tie.spec
-    Inv-loop
-    μ-loop
-    loop-holds
-    add-next
-    mul-wide
-    shared-slice-read-wide
-    wide-requires
+    leads-on-requires
     returns
-    mul-wide-2
-    shared-slice-read-wide-2
-    wide-requires-2
+    add-next
+    leads-on-requires-2
     returns-2
-    loop-less
-    loop-again)
+    run-strides-requires
+    run-singly-requires
+    returns-3)
