@@ -1,7 +1,7 @@
 //! Before anything is timed: all versions answer and write the same, on every row that is timed and on faulty input.
 
-use crate::calls::{build, class_check, find, pass, plain_match, replace, variables, Buffers, By, ALL};
-use crate::lines::patterns;
+use crate::calls::{build, class_check, find, pass, plain_match, replace, sheet, variables, Buffers, By, Laid, ALL};
+use crate::lines::{crowded, mixed, patterns};
 use crate::rows::{Programme, Rows, ONE, TWO};
 
 /// What the calls are lent.
@@ -15,6 +15,8 @@ struct Given {
     replacement: Vec<u16>,
     position: usize,
     places: usize,
+    sheet: Laid,
+    result_places: usize,
 }
 
 /// Do all of them do the same?
@@ -24,9 +26,11 @@ fn same<T: PartialEq>(what: &str, by: &[By], mut call: impl FnMut(By) -> T) {
     assert!(said.all(|other| other == library), "{what}: the versions do not answer or write the same");
 }
 
+/// All versions, and the exported function.
+const EXPORTED: [By; 5] = [ALL[0], ALL[1], ALL[2], ALL[3], By::Exported];
+
 /// Every call on the same input: what is answered, and what every lent buffer then holds.
 fn same_calls(what: &str, g: &Given) {
-    let exported = [ALL[0], ALL[1], ALL[2], ALL[3], By::Exported];
     let longer = |list: &[u16]| [list, &[7; 8]].concat();
     let sized = (1..=16384).contains(&g.row.len()) && g.table.len() >= g.row.len();
     if sized {
@@ -35,11 +39,11 @@ fn same_calls(what: &str, g: &Given) {
     if sized && g.classes.len() >= g.row.len() && pass(By::Library, &g.arities, &g.row, &g.table).refusal == 0 {
         same(what, &ALL, |by| class_check(by, &g.row, &g.table, &g.classes));
     }
-    same(what, &exported, |by| {
+    same(what, &EXPORTED, |by| {
         let (mut table, mut classes) = (vec![7; g.table.len()], vec![7; g.classes.len()]);
         (build(by, &g.arities, &g.row, &mut table, &mut classes), table, classes)
     });
-    same(what, &exported, |by| {
+    same(what, &EXPORTED, |by| {
         let mut out = vec![7; g.places];
         (find(by, &g.arities, &g.row, &g.table, &g.classes, &g.pattern, &mut out), out)
     });
@@ -47,12 +51,26 @@ fn same_calls(what: &str, g: &Given) {
         let mut out = vec![7; g.places];
         (variables(by, &g.arities, &g.row, &g.table, &g.classes, &g.pattern, g.position, &mut out), out)
     });
+    same_sheets(what, g);
     same(what, &ALL, |by| plain_match(by, &g.arities, &g.row, &g.pattern, g.position));
-    same(what, &exported, |by| {
+    same(what, &EXPORTED, |by| {
         let (mut row, mut table, mut classes) = (longer(&g.row), longer(&g.table), longer(&g.classes));
         let buffers = Buffers { row: &mut row, table: &mut table, classes: &mut classes };
         (replace(by, &g.arities, buffers, g.row.len(), &g.replacement, g.position), row, table, classes)
     });
+}
+
+/// A sheet in outputs of every size that matters: without places, with one too few and just enough for the positions, and with one too
+/// few and just enough for a match of each pattern at each position.
+fn same_sheets(what: &str, g: &Given) {
+    let answer = |by, places: usize| {
+        let (mut positions, mut results) = (vec![7; places], vec![7; g.result_places]);
+        (sheet(by, &g.arities, &g.row, &g.table, &g.classes, &g.sheet, &mut positions, &mut results), positions, results)
+    };
+    let (needed, most) = (answer(By::Library, 0).0.place as usize, g.row.len() * g.sheet.lengths.len());
+    for places in [0, needed.saturating_sub(1), needed, most.saturating_sub(1), most] {
+        same(what, &EXPORTED, |by| answer(by, places));
+    }
 }
 
 /// The last class that is not its position's own, and all that are the same, name its position and no longer the first.
@@ -64,7 +82,7 @@ fn lead_later(g: &mut Given) {
 }
 
 /// One fault each, most of them with a refusal of its own.
-const FAULTS: [(&str, fn(&mut Given)); 32] = [
+const FAULTS: [(&str, fn(&mut Given)); 41] = [
     ("no alphabet", |g| g.arities.clear()),
     ("a long alphabet", |g| g.arities.resize(1025, 0)),
     ("an arity of 16", |g| g.arities.push(16)),
@@ -100,12 +118,38 @@ const FAULTS: [(&str, fn(&mut Given)); 32] = [
     ("a replacement that ends early", |g| g.replacement.insert(0, TWO)),
     ("a position behind the row", |g| g.position = g.row.len()),
     ("an output without places", |g| g.places = 0),
+    ("a sheet without patterns", |g| g.sheet = Laid::new(&[])),
+    ("a sheet of 65 patterns", |g| g.sheet = Laid::new(&vec![vec![65535]; 65])),
+    ("lengths that add up to less", |g| g.sheet.lengths[0] -= 1),
+    ("lengths that add up to more", |g| g.sheet.lengths[0] += 1),
+    ("lengths that add up to 65,536 more", |g| g.sheet.lengths.extend([65535, 1])),
+    ("too few places for the results", |g| g.result_places = 3 * g.sheet.lengths.len() - 1),
+    ("a wrong first class and a sheet without patterns", |g| {
+        g.classes[0] ^= 1;
+        g.sheet = Laid::new(&[]);
+    }),
+    ("a sheet of 65 patterns and lengths that add up to less", |g| {
+        g.sheet = Laid::new(&vec![vec![65535]; 65]);
+        g.sheet.lengths[0] -= 1;
+    }),
+    ("lengths that add up to less and no places for the results", |g| {
+        g.sheet.lengths[0] -= 1;
+        g.result_places = 0;
+    }),
 ];
+
+/// A sheet with the pattern, and others behind it: one without numbers, a long one, one with a bad number, one that ends early, one that
+/// goes on, and the pattern once more.
+fn motley(pattern: &[u16]) -> Laid {
+    let others = [vec![], vec![0; 257], vec![TWO, 0, 65296], vec![TWO, 65535], vec![0, 65535]];
+    Laid::new(&[&[pattern.to_vec()], &others[..], &[pattern.to_vec()]].concat())
+}
 
 fn given(rows: &Rows, p: &Programme, pattern: Vec<u16>, replacement: Vec<u16>) -> Given {
     let Programme { row, table, classes } = p.clone();
     let n = row.len();
-    Given { arities: rows.arities.clone(), row, table, classes, pattern, replacement, position: n / 2, places: n + 40 }
+    let sheet = motley(&pattern);
+    Given { arities: rows.arities.clone(), row, table, classes, pattern, replacement, position: n / 2, places: n + 40, sheet, result_places: 200 }
 }
 
 pub fn agree(rows: &Rows) {
@@ -116,6 +160,9 @@ pub fn agree(rows: &Rows) {
         same_calls("a longer replacement", &given(rows, p, vec![65280], vec![ONE, ONE, TWO, 0, 1]));
     }
     for same_length in &rows.all {
+        for (what, sheet) in [("a mixed sheet", mixed(rows.shape)), ("a crowded sheet", crowded(rows.shape))] {
+            same_sheets(what, &Given { sheet, ..given(rows, &same_length[0], vec![1], vec![1]) });
+        }
         for (what, fault) in FAULTS {
             let mut g = given(rows, &same_length[0], vec![TWO, 65280, 65280], vec![ONE, 0]);
             fault(&mut g);

@@ -1,5 +1,6 @@
 //! What the calls are held to, and how far each is from it.
 
+use crate::lines::PATTERNS;
 use crate::rows::{COLLIDING, LENGTHS, SHAPES};
 use crate::timing::Measured;
 use std::fmt::Write;
@@ -99,6 +100,7 @@ fn beside_the_strongest() -> Vec<Bar> {
         Bar::strongest("find on its slowest, fixed chain", 1.5, |m| is(m, "find on its slowest", "fixed chain")),
         Bar::strongest("find on its slowest, chain over S", 1.5, |m| is(m, "find on its slowest", "chain over S")),
         Bar::strongest("find, output shorter than the row", f64::INFINITY, |m| m.call == "find" && is_short(m)),
+        Bar::strongest("sheet", f64::INFINITY, |m| m.call == "sheet"),
         Bar::strongest("variables", 1.2, |m| m.call == "variables"),
         Bar::strongest("plain matcher", 1.2, |m| m.call == "plain matcher"),
         Bar::strongest("replace", 1.25, |m| m.call.starts_with("replace")),
@@ -131,6 +133,11 @@ fn others() -> Vec<Bar> {
         Bar::other("find with a rare root, of its checks", 2.5, 4096, |m| is(m, "find", "rare root"), yardstick),
         Bar::other("find with repeated variables, of one with a common root", 1.5, 4096, |m| is(m, "find", "repeated variables"), yardstick),
         Bar::other("find with an output shorter than the row, of find with room", 1.15, 0, is_short, yardstick),
+        Bar::other("sheet of 64 rare roots, of 64 finds", 0.2, 16384, |m| is(m, "sheet", "64 rare roots"), |m| m.of_yardstick() / PATTERNS as f64),
+        Bar::other("sheet of one pattern, of one find", 1.1, 256, |m| m.call == "sheet" && m.on.starts_with("one"), yardstick),
+        Bar::other("sheet of 64 mixed patterns, of the Rust", 1.0, 256, |m| is(m, "sheet", "64 mixed"), Measured::of_rust),
+        Bar::other("sheet of 64 mixed patterns, of the plain C", 1.15, 256, |m| is(m, "sheet", "64 mixed"), Measured::of_c),
+        Bar::other("sheet searched twice, of one searched once", f64::INFINITY, 4096, |m| is(m, "sheet", "64 searched twice"), yardstick),
         Bar::other("a stale table, of one that is accepted", 3.0, 4096, |m| m.on.contains("stale"), yardstick),
         Bar::other("one replacement, of a build", 2.0, 4096, |m| m.call == "replace and back", |m| m.of_yardstick() / 2.0),
         Bar::other("the whole row replaced, of a build", 2.0, 4096, |m| m.on == "whole row", yardstick),
@@ -145,6 +152,8 @@ fn beside_the_inner_calls() -> Vec<Bar> {
         Bar::exported("sparrowhem_build", 1.1, 1.1, |m| m.call == "sparrowhem_build"),
         Bar::exported("sparrowhem_find, rare root", 1.3, 3.0, |m| is(m, "sparrowhem_find", "rare root")),
         Bar::exported("sparrowhem_find, common root", 1.3, 3.0, |m| is(m, "sparrowhem_find", "common root")),
+        Bar::exported("sparrowhem_sheet, one pattern", 1.3, 3.0, |m| is(m, "sparrowhem_sheet", "one rare root")),
+        Bar::exported("sparrowhem_sheet, 64 patterns", 1.3, 3.0, |m| is(m, "sparrowhem_sheet", "64 rare roots")),
         Bar::exported("sparrowhem_replace, same size", 1.3, 3.0, |m| is(m, "sparrowhem_replace", "same size in the middle")),
         Bar::exported("sparrowhem_replace, grow and shrink", 1.3, 3.0, |m| is(m, "sparrowhem_replace", "grow and shrink in the middle")),
     ]

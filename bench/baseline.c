@@ -253,8 +253,8 @@ answer c_build(const uint16_t *arities, size_t symbols, const uint16_t *row, siz
 }
 
 /* Does the pattern match at p? spans holds begin and end of each variable. */
-static bool match_at(const uint16_t *row, const uint16_t *table, const uint16_t *classes, const uint16_t *pattern, size_t m, size_t p,
-                     uint16_t *spans) {
+static inline bool match_at(const uint16_t *row, const uint16_t *table, const uint16_t *classes, const uint16_t *pattern, size_t m,
+                            size_t p, uint16_t *spans) {
     if (row[p] != pattern[0] && pattern[0] < FIRST_VARIABLE) return false;
     memset(spans, 0, 2 * VARIABLES * sizeof *spans);
     size_t j = p;
@@ -296,6 +296,72 @@ answer c_find(const uint16_t *arities, size_t symbols, const uint16_t *row, size
     for (size_t p = 0; p < n; p++)
         if (match_at(row, table, classes, pattern, m, p, spans)) out[count++] = (uint16_t)p;
     return counted(count);
+}
+
+/* A sheet of patterns, laid end to end, over a checked row. */
+enum { MOST_PATTERNS = 64, RESULT = 3, GATHERED = 2 * MOST };
+
+typedef struct {
+    const uint16_t *arities;
+    size_t symbols;
+    const uint16_t *row;
+    size_t n;
+    const uint16_t *table, *classes, *patterns, *lengths;
+    size_t many;
+} sheet;
+
+/* Refusals 63, 64, and 19 for the results. */
+static answer check_lengths(const uint16_t *lengths, size_t many, size_t lent, size_t result_places) {
+    if (many == 0 || many > MOST_PATTERNS) return refused(63, many);
+    size_t sum = 0;
+    for (size_t i = 0; i < many; i++) sum += lengths[i];
+    if (sum != lent) return refused(64, lent);
+    return result_places < RESULT * many ? refused(19, RESULT * many) : counted(0);
+}
+
+/* Writes the result of each pattern, and the positions as far as there are places; how many positions are there? */
+static size_t answer_patterns(const sheet *s, uint16_t *positions, size_t places, uint16_t *results) {
+    const uint16_t *pattern = s->patterns;
+    uint16_t spans[2 * VARIABLES];
+    size_t count = 0;
+    for (size_t i = 0; i < s->many; i++) {
+        size_t m = s->lengths[i], before = count;
+        answer a = check_pattern(s->arities, s->symbols, pattern, m);
+        size_t searched = a.refusal ? 0 : s->n;
+        for (size_t p = 0; p < searched; p++) {
+            if (!match_at(s->row, s->table, s->classes, pattern, m, p, spans)) continue;
+            if (count < places) positions[count] = (uint16_t)p;
+            count++;
+        }
+        results[RESULT * i] = (uint16_t)a.refusal;
+        results[RESULT * i + 1] = (uint16_t)a.place;
+        results[RESULT * i + 2] = (uint16_t)(count - before);
+        pattern += m;
+    }
+    return count;
+}
+
+/* Where the positions may not fit they are gathered first; if they are more than that room has, they are looked for once more. */
+static answer answer_sheet(const sheet *s, uint16_t *positions, size_t places, uint16_t *results) {
+    if (places >= s->n * s->many) return counted(answer_patterns(s, positions, places, results));
+    uint16_t room[GATHERED], kept[RESULT * MOST_PATTERNS];
+    size_t count = answer_patterns(s, room, GATHERED, kept);
+    if (count > places) return refused(19, count);
+    if (count > GATHERED) return counted(answer_patterns(s, positions, places, results));
+    if (count > 0) memcpy(positions, room, count * sizeof *positions);
+    memcpy(results, kept, RESULT * s->many * sizeof *results);
+    return counted(count);
+}
+
+answer c_sheet(const uint16_t *arities, size_t symbols, const uint16_t *row, size_t n, const uint16_t *table, size_t room,
+               const uint16_t *classes, size_t class_room, const uint16_t *patterns, size_t lent, const uint16_t *lengths, size_t many,
+               uint16_t *positions, size_t places, uint16_t *results, size_t result_places) {
+    answer a = check_given(arities, symbols, row, n, table, classes, shorter(room, class_room));
+    if (a.refusal) return a;
+    a = check_lengths(lengths, many, lent, result_places);
+    if (a.refusal) return a;
+    sheet s = {arities, symbols, row, n, table, classes, patterns, lengths, many};
+    return answer_sheet(&s, positions, places, results);
 }
 
 answer c_variables(const uint16_t *arities, size_t symbols, const uint16_t *row, size_t n, const uint16_t *table, size_t room,

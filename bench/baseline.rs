@@ -323,6 +323,103 @@ pub fn find(arities: &[u16], row: &[u16], table: &[u16], classes: &[u16], patter
     Ok(count)
 }
 
+/// The most patterns of a sheet, the numbers of a result, and how many positions are gathered before they are written.
+const MOST_PATTERNS: usize = 64;
+const RESULT: usize = 3;
+const GATHERED: usize = 32768;
+
+/// Refusals 63, 64, and 19 for the results.
+fn check_lengths(patterns: &[u16], lengths: &[u16], result_places: usize) -> Result<(), Refusal> {
+    if lengths.is_empty() || lengths.len() > MOST_PATTERNS {
+        return Err((63, lengths.len() as u64));
+    }
+    if lengths.iter().map(|&m| m as usize).sum::<usize>() != patterns.len() {
+        return Err((64, patterns.len() as u64));
+    }
+    if result_places < RESULT * lengths.len() {
+        return Err((19, (RESULT * lengths.len()) as u64));
+    }
+    Ok(())
+}
+
+/// A sheet of patterns, laid end to end, over a checked row.
+struct Sheet<'a> {
+    arities: &'a [u16],
+    row: &'a [u16],
+    table: &'a [u16],
+    classes: &'a [u16],
+    patterns: &'a [u16],
+    lengths: &'a [u16],
+}
+
+impl Sheet<'_> {
+    /// Hands each position of each pattern to `put`, and writes the results; how many positions are there?
+    fn answer(&self, mut put: impl FnMut(u16), results: &mut [u16]) -> usize {
+        let (mut rest, mut all) = (self.patterns, 0);
+        for (&m, result) in self.lengths.iter().zip(results.chunks_exact_mut(RESULT)) {
+            let (pattern, behind) = rest.split_at(m as usize);
+            let mut count = 0;
+            let checked = check_pattern(self.arities, pattern);
+            if checked.is_ok() {
+                for p in 0..self.row.len() {
+                    if match_at(self.row, self.table, self.classes, pattern, p).is_some() {
+                        put(p as u16);
+                        count += 1;
+                    }
+                }
+            }
+            let (refusal, place) = checked.err().unwrap_or((0, 0));
+            result.copy_from_slice(&[refusal as u16, place as u16, count]);
+            all += count as usize;
+            rest = behind;
+        }
+        all
+    }
+
+    /// The same, into an output that has room for all positions.
+    fn write(&self, positions: &mut [u16], results: &mut [u16]) -> usize {
+        let mut places = positions.iter_mut();
+        self.answer(|p| *places.next().expect("a place") = p, results)
+    }
+}
+
+/// Where the positions may not fit they are gathered first; if they are more than that room has, they are looked for once more.
+pub fn sheet(
+    arities: &[u16],
+    row: &[u16],
+    table: &[u16],
+    classes: &[u16],
+    patterns: &[u16],
+    lengths: &[u16],
+    positions: &mut [u16],
+    results: &mut [u16],
+) -> Result<usize, Refusal> {
+    check_given(arities, row, table, classes)?;
+    check_lengths(patterns, lengths, results.len())?;
+    let sheet = Sheet { arities, row, table, classes, patterns, lengths };
+    let most = row.len() * lengths.len();
+    if positions.len() >= most {
+        return Ok(sheet.write(positions, results));
+    }
+    let (mut room, mut kept) = (Vec::with_capacity(most.min(GATHERED)), [0; RESULT * MOST_PATTERNS]);
+    let gather = |p| {
+        if room.len() < GATHERED {
+            room.push(p);
+        }
+    };
+    let count = sheet.answer(gather, &mut kept);
+    if count > positions.len() {
+        return Err((19, count as u64));
+    }
+    if count > GATHERED {
+        return Ok(sheet.write(positions, results));
+    }
+    positions[..count].copy_from_slice(&room);
+    let written = RESULT * lengths.len();
+    results[..written].copy_from_slice(&kept[..written]);
+    Ok(count)
+}
+
 pub fn variables(
     arities: &[u16],
     row: &[u16],

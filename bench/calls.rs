@@ -14,13 +14,16 @@ pub struct Answer {
 type List = (*const u16, usize);
 
 macro_rules! calls {
-    ($($pass:ident $class_check:ident $build:ident $find:ident $variables:ident $replace:ident $plain:ident)*) => { extern "C" { $(
+    ($($pass:ident $class_check:ident $build:ident $find:ident $sheet:ident $variables:ident $replace:ident $plain:ident)*) => { extern "C" { $(
         fn $pass(arities: *const u16, symbols: usize, row: *const u16, n: usize, table: *const u16, room: usize) -> Answer;
         fn $class_check(row: *const u16, n: usize, table: *const u16, room: usize, classes: *const u16, class_room: usize) -> Answer;
         fn $build(arities: *const u16, symbols: usize, row: *const u16, n: usize, table: *mut u16, room: usize,
             classes: *mut u16, class_room: usize) -> Answer;
         fn $find(arities: *const u16, symbols: usize, row: *const u16, n: usize, table: *const u16, room: usize,
             classes: *const u16, class_room: usize, pattern: *const u16, m: usize, out: *mut u16, places: usize) -> Answer;
+        fn $sheet(arities: *const u16, symbols: usize, row: *const u16, n: usize, table: *const u16, room: usize,
+            classes: *const u16, class_room: usize, patterns: *const u16, lent: usize, lengths: *const u16, many: usize,
+            positions: *mut u16, places: usize, results: *mut u16, result_places: usize) -> Answer;
         fn $variables(arities: *const u16, symbols: usize, row: *const u16, n: usize, table: *const u16, room: usize,
             classes: *const u16, class_room: usize, pattern: *const u16, m: usize, position: usize, out: *mut u16, places: usize) -> Answer;
         fn $replace(arities: *const u16, symbols: usize, row: *mut u16, row_room: usize, table: *mut u16, room: usize,
@@ -30,9 +33,9 @@ macro_rules! calls {
     )* } };
 }
 calls! {
-    timed_pass timed_class_check timed_build timed_find timed_variables timed_replace timed_plain_match
-    c_pass c_class_check c_build c_find c_variables c_replace c_plain_match
-    strong_pass strong_class_check strong_build strong_find strong_variables strong_replace strong_plain_match
+    timed_pass timed_class_check timed_build timed_find timed_sheet timed_variables timed_replace timed_plain_match
+    c_pass c_class_check c_build c_find c_sheet c_variables c_replace c_plain_match
+    strong_pass strong_class_check strong_build strong_find strong_sheet strong_variables strong_replace strong_plain_match
 }
 
 // The ends alone, by the library's two ways.
@@ -63,6 +66,9 @@ extern "C" {
         classes: *mut u16, class_room: usize) -> Exported;
     fn sparrowhem_find(arities: *const u16, symbols: usize, row: *const u16, n: usize, table: *const u16, room: usize,
         classes: *const u16, class_room: usize, pattern: *const u16, m: usize, out: *mut u16, places: usize) -> Exported;
+    fn sparrowhem_sheet(arities: *const u16, symbols: usize, row: *const u16, n: usize, table: *const u16, room: usize,
+        classes: *const u16, class_room: usize, patterns: *const u16, lent: usize, lengths: *const u16, many: usize,
+        positions: *mut u16, places: usize, results: *mut u16, result_places: usize) -> Exported;
     fn sparrowhem_replace(arities: *const u16, symbols: usize, row: *mut u16, row_room: usize, table: *mut u16, room: usize,
         classes: *mut u16, class_room: usize, n: u64, replacement: *const u16, m: usize, position: u64) -> Exported;
 }
@@ -153,6 +159,31 @@ pub fn find(by: By, arities: &[u16], row: &[u16], table: &[u16], classes: &[u16]
         By::C => unsafe { c_find(a, k, w, n, t, m, c, r, q, l, o, p) },
         By::Strong => unsafe { strong_find(a, k, w, n, t, m, c, r, q, l, o, p) },
         By::Exported => unsafe { sparrowhem_find(a, 2 * k, w, 2 * n, t, 2 * m, c, 2 * r, q, 2 * l, o, 2 * p).answer() },
+    }
+}
+
+/// A sheet's patterns laid end to end, and their lengths.
+#[derive(Clone)]
+pub struct Laid {
+    pub patterns: Vec<u16>,
+    pub lengths: Vec<u16>,
+}
+
+impl Laid {
+    pub fn new(all: &[Vec<u16>]) -> Laid {
+        Laid { patterns: all.concat(), lengths: all.iter().map(|pattern| pattern.len() as u16).collect() }
+    }
+}
+
+pub fn sheet(by: By, arities: &[u16], row: &[u16], table: &[u16], classes: &[u16], laid: &Laid, positions: &mut [u16], results: &mut [u16]) -> Answer {
+    let ((a, k), (w, n), (t, m), (c, r)) = (list(arities), list(row), list(table), list(classes));
+    let ((q, l), (g, i), (o, p), (e, s)) = (list(&laid.patterns), list(&laid.lengths), written(positions), written(results));
+    match by {
+        By::Library => unsafe { timed_sheet(a, k, w, n, t, m, c, r, q, l, g, i, o, p, e, s) },
+        By::Rust => answered(baseline::sheet(arities, row, table, classes, &laid.patterns, &laid.lengths, positions, results).map(|c| (c as u64, 0))),
+        By::C => unsafe { c_sheet(a, k, w, n, t, m, c, r, q, l, g, i, o, p, e, s) },
+        By::Strong => unsafe { strong_sheet(a, k, w, n, t, m, c, r, q, l, g, i, o, p, e, s) },
+        By::Exported => unsafe { sparrowhem_sheet(a, 2 * k, w, 2 * n, t, 2 * m, c, 2 * r, q, 2 * l, g, 2 * i, o, 2 * p, e, 2 * s).answer() },
     }
 }
 

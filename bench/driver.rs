@@ -27,6 +27,8 @@ fn time_all(quick: bool) -> Vec<Measured> {
         lines::kept(&mut bench, &rows);
         lines::ends(&mut bench, &rows);
         lines::searches(&mut bench, &rows);
+        lines::sheets(&mut bench, &rows);
+        lines::sheets_twice(&mut bench, &Rows::new(shape, vec![4096, 16384]));
         lines::plain(&mut bench, &rows);
         lines::refusals(&mut bench, &rows);
         lines::replacements(&mut bench, &roomy);

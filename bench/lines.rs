@@ -1,6 +1,6 @@
 //! The lines of the benchmark: which call is timed on what, and beside which yardstick.
 
-use crate::calls::{build, class_check, ends_by_hops, ends_by_list, find, pass, plain_match, replace, variables, Answer, Buffers, By};
+use crate::calls::{build, class_check, ends_by_hops, ends_by_list, find, pass, plain_match, replace, sheet, variables, Answer, Buffers, By, Laid};
 use crate::rows::{alphabet, Programme, Rows, FIFTEEN, ONE, TWO};
 use crate::timing::Bench;
 
@@ -106,6 +106,69 @@ pub fn searches(bench: &mut Bench, rows: &Rows) {
         variables(by, &rows.arities, &p.row, &p.table, &p.classes, &[X0], 0, &mut spans)
     };
     bench.add(["variables", "bare X0"], rows, call, |l, k| checked(rows, l, k));
+}
+
+/// The most patterns that a sheet has.
+pub const PATTERNS: usize = 64;
+
+/// A sheet of patterns of many kinds, of which 16,384 places hold all positions: one with a common root over S, one over a repeated
+/// variable; then by turns those with rare roots, with a common root that seldom matches, and with a variable that is compared and
+/// seldom equal; the last is refused.
+pub fn mixed(shape: &str) -> Laid {
+    let common = common(shape);
+    let seldom = |i: usize| match i % 3 {
+        0 => over(6 + (i % 10) as u16, S),
+        1 => over(common, 1),
+        _ => vec![TWO, TWO, X0, S, X0],
+    };
+    let mut all = vec![over(common, S), over(common.max(TWO), X0)];
+    all.extend((0..PATTERNS - 3).map(seldom));
+    all.push(vec![TWO, S]);
+    Laid::new(&all)
+}
+
+/// A sheet with more positions, on long rows, than are gathered at once: a common root over S and a leaf, by turns.
+pub fn crowded(shape: &str) -> Laid {
+    Laid::new(&vec![[over(common(shape), S), vec![0]]; PATTERNS / 2].concat())
+}
+
+/// A sheet over a programme.
+fn sheet_over(by: By, rows: &Rows, l: usize, k: usize, laid: &Laid, positions: &mut [u16], results: &mut [u16]) -> Answer {
+    let p = rows.at(l, k);
+    sheet(by, &rows.arities, &p.row, &p.table, &p.classes, laid, positions, results)
+}
+
+/// Sheets: of one pattern, in an output as long as the row, and of 64 in one of 16,384 places. The yardstick is one find; of mixed
+/// patterns, what is checked first.
+pub fn sheets(bench: &mut Bench, rows: &Rows) {
+    let (mut positions, mut results, mut out) = (vec![0; 16384], [0; 3 * PATTERNS], vec![0; 16384]);
+    let mut one_find = |pattern: &[u16], l: usize, k| {
+        let p = rows.at(l, k);
+        find(By::Library, &rows.arities, &p.row, &p.table, &p.classes, pattern, &mut out[..rows.lengths[l]])
+    };
+    let (rare, common) = (over(15, S), over(common(rows.shape), S));
+    for (on, pattern) in [("one rare root", &rare), ("one common root", &common)] {
+        let laid = Laid::new(&[pattern.clone()]);
+        let call = |by, l: usize, k| sheet_over(by, rows, l, k, &laid, &mut positions[..rows.lengths[l]], &mut results);
+        bench.add(["sheet", on], rows, call, |l, k| one_find(pattern, l, k));
+    }
+    let laid = Laid::new(&vec![rare.clone(); PATTERNS]);
+    let call = |by, l, k| sheet_over(by, rows, l, k, &laid, &mut positions, &mut results);
+    bench.add(["sheet", "64 rare roots"], rows, call, |l, k| one_find(&rare, l, k));
+    let laid = mixed(rows.shape);
+    let call = |by, l, k| sheet_over(by, rows, l, k, &laid, &mut positions, &mut results);
+    bench.add(["sheet", "64 mixed"], rows, call, |l, k| checked(rows, l, k));
+}
+
+/// A sheet that is searched twice, since its output could be too short and its positions are more than are gathered at once. The
+/// yardstick is the same with one place more, searched once.
+pub fn sheets_twice(bench: &mut Bench, rows: &Rows) {
+    let (mut positions, mut out) = (vec![0; PATTERNS * 16384], vec![0; PATTERNS * 16384]);
+    let laid = crowded(rows.shape);
+    let most = |l: usize| PATTERNS * rows.lengths[l];
+    let answer = |by, l, k, positions: &mut [u16]| sheet_over(by, rows, l, k, &laid, positions, &mut [0; 3 * PATTERNS]);
+    let call = |by, l, k| answer(by, l, k, &mut positions[..most(l) - 1]);
+    bench.add(["sheet", "64 searched twice"], rows, call, |l, k| answer(By::Library, l, k, &mut out[..most(l)]));
 }
 
 /// The plain matcher. The yardstick is a pass.
@@ -238,6 +301,12 @@ pub fn exported(bench: &mut Bench, rows: &Rows) {
             find(by, &rows.arities, &p.row, &p.table, &p.classes, &pattern, &mut out[..rows.lengths[l]])
         };
         bench.exported(["sparrowhem_find", on], rows, call);
+    }
+    for (on, many) in [("one rare root", 1), ("64 rare roots", PATTERNS)] {
+        let (laid, mut results) = (Laid::new(&vec![over(15, S); many]), vec![0; 3 * many]);
+        let places = |l: usize| if many == 1 { rows.lengths[l] } else { 16384 };
+        let call = |by, l, k| sheet_over(by, rows, l, k, &laid, &mut out[..places(l)], &mut results);
+        bench.exported(["sparrowhem_sheet", on], rows, call);
     }
     for (on, new) in NEW {
         let mut edits = Edits::new(rows, 2, new);

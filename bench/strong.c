@@ -555,6 +555,78 @@ answer strong_find(const uint16_t *arities, size_t symbols, const uint16_t *row,
     return counted(count);
 }
 
+/* A sheet of patterns, laid end to end, over a checked row. */
+enum { MOST_PATTERNS = 64, RESULT = 3, GATHERED = 2 * MOST };
+
+typedef struct {
+    const uint16_t *arities;
+    size_t symbols;
+    const uint16_t *row;
+    size_t n;
+    const uint16_t *table, *classes, *patterns, *lengths;
+    size_t many;
+} sheet;
+
+/* Refusals 63, 64, and 19 for the results. */
+INLINE answer check_lengths(const uint16_t *lengths, size_t many, size_t lent, size_t result_places) {
+    if (UNLIKELY(many - 1 >= MOST_PATTERNS)) return refused(63, many);
+    size_t sum = 0;
+    for (size_t i = 0; i < many; i++) sum += lengths[i];
+    if (UNLIKELY(sum != lent)) return refused(64, lent);
+    return UNLIKELY(result_places < RESULT * many) ? refused(19, RESULT * many) : counted(0);
+}
+
+/* The matches of a pattern at the front of `out`, if it has a place for each; how many are there? */
+static size_t search_beside(const sheet *s, const uint16_t *pattern, size_t m, const known *k, uint16_t *out, size_t places) {
+    uint16_t beside[MOST];
+    size_t count = search(s->row, s->n, s->table, s->classes, pattern, m, k, beside);
+    if (count > 0 && count <= places) memcpy(out, beside, count * sizeof *out);
+    return count;
+}
+
+/* Writes the result of each pattern, and the positions of all if there are places for them; how many positions are there? */
+static size_t answer_patterns(const sheet *s, uint16_t *positions, size_t places, uint16_t *results) {
+    const uint16_t *pattern = s->patterns;
+    size_t count = 0;
+    for (size_t i = 0; i < s->many; i++) {
+        known k = {0};
+        size_t m = s->lengths[i], found = 0, left = places - shorter(count, places);
+        uint16_t *out = positions + (places - left);
+        answer a = check_pattern(s->arities, s->symbols, pattern, m, &k);
+        if (!a.refusal && left >= s->n) found = search(s->row, s->n, s->table, s->classes, pattern, m, &k, out);
+        else if (!a.refusal) found = search_beside(s, pattern, m, &k, out, left);
+        results[RESULT * i] = (uint16_t)a.refusal;
+        results[RESULT * i + 1] = (uint16_t)a.place;
+        results[RESULT * i + 2] = (uint16_t)found;
+        count += found;
+        pattern += m;
+    }
+    return count;
+}
+
+/* Where the positions may not fit they are gathered first; if they are more than that room has, they are looked for once more. */
+static answer answer_sheet(const sheet *s, uint16_t *positions, size_t places, uint16_t *results) {
+    if (places >= s->n * s->many) return counted(answer_patterns(s, positions, places, results));
+    uint16_t room[GATHERED], kept[RESULT * MOST_PATTERNS];
+    size_t count = answer_patterns(s, room, GATHERED, kept);
+    if (count > places) return refused(19, count);
+    if (count > GATHERED) return counted(answer_patterns(s, positions, places, results));
+    if (count > 0) memcpy(positions, room, count * sizeof *positions);
+    memcpy(results, kept, RESULT * s->many * sizeof *results);
+    return counted(count);
+}
+
+answer strong_sheet(const uint16_t *arities, size_t symbols, const uint16_t *row, size_t n, const uint16_t *table, size_t room,
+                    const uint16_t *classes, size_t class_room, const uint16_t *patterns, size_t lent, const uint16_t *lengths,
+                    size_t many, uint16_t *positions, size_t places, uint16_t *results, size_t result_places) {
+    answer a = check_given(arities, symbols, row, n, table, classes, shorter(room, class_room));
+    if (UNLIKELY(a.refusal)) return a;
+    a = check_lengths(lengths, many, lent, result_places);
+    if (UNLIKELY(a.refusal)) return a;
+    sheet s = {arities, symbols, row, n, table, classes, patterns, lengths, many};
+    return answer_sheet(&s, positions, places, results);
+}
+
 /* Does the pattern match at j? spans holds begin and end of each variable. */
 static bool match_at(const uint16_t *row, const uint16_t *table, const uint16_t *classes, const uint16_t *pattern, size_t m,
                      size_t j, uint16_t *spans) {

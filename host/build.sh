@@ -1,7 +1,7 @@
 #!/bin/sh
-# build.sh [PREFIX]: proves and builds the archive, and builds the example over it, in target/host; with PREFIX, installs
+# build.sh [PREFIX]: proves and builds the archive, and builds the two examples over it, in target/host; with PREFIX, installs
 # archive, header and pkg-config file there, and the program seek, proved and built as well, with its man page. On x86-64
-# the example is built by CC (default cc), elsewhere by the kit.
+# the examples are built by CC (default cc), elsewhere by the kit.
 set -eu
 cd "$(dirname "$0")/.."
 prefix=${1:-}
@@ -9,13 +9,15 @@ rt staticlib host
 out=target/host
 mkdir -p $out
 cp target/staticlib/libhost.a $out/libsparrowhem.a
-if [ "$(uname -m)" = x86_64 ]; then
-    ${CC:-cc} -std=c99 -O2 -Wall -Wextra -Iinclude -o $out/example host/example.c -L$out -lsparrowhem
-else
-    . host/kit.sh
-    kit_cc $out/example host/example.c
-fi
-echo "built $out/libsparrowhem.a and $out/example"
+for example in example morning; do
+    if [ "$(uname -m)" = x86_64 ]; then
+        ${CC:-cc} -std=c99 -O2 -Wall -Wextra -Iinclude -o $out/$example host/$example.c -L$out -lsparrowhem
+    else
+        . host/kit.sh
+        kit_cc $out/$example host/$example.c
+    fi
+done
+echo "built $out/libsparrowhem.a, $out/example and $out/morning"
 [ -n "$prefix" ] || exit 0
 version=$(sed -n 's/^#define SPARROWHEM_VERSION  *"\(.*\)"$/\1/p' include/sparrowhem.h)
 rt check seek

@@ -1,6 +1,6 @@
 /*
-** sparrowhem.h: build, find and replace in programme trees that are kept as
-** rows of symbols.
+** sparrowhem.h: build, find, one pattern or a sheet of them, and replace, in
+** programme trees that are kept as rows of symbols.
 **
 ** ALPHABET, ROW, TABLE, CLASSES
 **
@@ -32,14 +32,32 @@
 ** SPARROWHEM_VARIABLE(0) to SPARROWHEM_VARIABLE(15); equal variables stand
 ** for equal subtrees.
 **
+** SHEET
+**
+** Up to 64 patterns that are looked for in one row by one call.  They are laid
+** END TO END in one list, with nothing between them, and a second list has
+** their LENGTHS, in the same order.  Patterns are numbered from 0.  The call
+** writes two outputs: the POSITIONS of all patterns, and a RESULT for each,
+** which is three numbers.
+**
+**     patterns   3 X X 1 2 9   the patterns 3 X X, then 1, then 2 9; X is
+**                              SPARROWHEM_VARIABLE(0)
+**     lengths    3 1 2
+**     positions  1 6 5         in the row above: pattern 0 matches at 1 and 6,
+**                              pattern 1 at 5; pattern 2 is refused
+**     results    0 0 2         refusal 0, place 0, count 2
+**                0 0 1
+**                13 1 0        refusal 13 at place 1: 9 is no symbol
+**
 ** NUMBERS ARE LENT AS BYTES
 **
-** Every list of numbers (alphabet, row, table, classes, pattern, replacement,
-** output) is lent as a pointer and a count of BYTES.  Each number takes two
-** bytes, the low one first, on every machine.  An odd last byte is neither
-** counted nor written: 17 bytes are 8 numbers.  The bytes may begin at any
-** address, odd ones too.  A null pointer with count 0 is an empty list.
-** Lengths, positions and places count NUMBERS, not bytes.
+** Every list of numbers (alphabet, row, table, classes, pattern or patterns,
+** lengths, replacement, each output) is lent as a pointer and a count of
+** BYTES.  Each number takes two bytes, the low one first, on every machine.
+** An odd last byte is neither counted nor written: 17 bytes are 8 numbers.
+** The bytes may begin at any address, odd ones too.  A null pointer with
+** count 0 is an empty list.  Lengths, positions and places count NUMBERS, not
+** bytes.
 **
 ** On a little-endian machine an array of uint16_t is such a list as it
 ** stands: `(const uint8_t *)row, 2 * n` lends its first n numbers, and
@@ -68,12 +86,23 @@
 **
 ** STACK
 **
-** sparrowhem_build works on the lent bytes themselves and needs under 6 KiB
-** for any row, whether it answers or refuses: a task with 8 KiB can call it.
-** sparrowhem_find and sparrowhem_replace work on copies on the stack.  They
-** need under 12 KiB where the row, and what replaces a part of it, have at most
-** 256 symbols each; for the longest row find needs under 192 KiB, and replace
-** under 228 KiB.
+** sparrowhem_build works on the lent bytes themselves, the others on copies on
+** the stack.  They need less than
+**
+**     sparrowhem_build    6 KiB for any row, whether it answers or refuses: a
+**                         task with 8 KiB can call it
+**     sparrowhem_find     192 KiB, 12 KiB for rows of at most 256 symbols, if
+**                         the pattern is not too long
+**     sparrowhem_sheet    268 KiB, 16 KiB for rows of at most 256 symbols, if
+**                         there are not too many lengths
+**     sparrowhem_replace  228 KiB, 12 KiB for rows of at most 256 symbols, if
+**                         what replaces a part has at most 256 too
+**
+** SINCE VERSION 2.0
+**
+** sparrowhem_sheet is new, and with it the refusals 63 and 64; the words of
+** refusal 19 speak of its outputs too.  Nothing else has changed: what was
+** written for 2.0 compiles and runs as it did.
 **
 ** SINCE VERSION 1
 **
@@ -97,17 +126,24 @@ extern "C" {
 ** The version: as a string, and as a number that grows with it, a million for
 ** the first part, a thousand for the second, one for the third.
 */
-#define SPARROWHEM_VERSION        "2.0.0"
-#define SPARROWHEM_VERSION_NUMBER 2000000
+#define SPARROWHEM_VERSION        "2.1.0"
+#define SPARROWHEM_VERSION_NUMBER 2001000
 
 /*
 ** Limits: symbols in an alphabet, an arity, numbers in a row or in a
-** replacement, numbers in a pattern.
+** replacement, numbers in a pattern, patterns in a sheet.
 */
 #define SPARROWHEM_MOST_SYMBOLS 1024
 #define SPARROWHEM_MOST_ARITY   15
 #define SPARROWHEM_MOST_ROW     16384
 #define SPARROWHEM_MOST_PATTERN 256
+#define SPARROWHEM_MOST_SHEET   64
+
+/*
+** How many numbers a sheet's result has for each pattern: refusal or 0, place
+** or 0, count.
+*/
+#define SPARROWHEM_RESULT_NUMBERS 3
 
 /*
 ** In a pattern: any one subtree, and variable i, from 0 to 15.
@@ -126,9 +162,12 @@ extern "C" {
 ** Why a call refuses, each with the place that it gives.
 **
 ** Where several apply, the first in this order is given: 1 to 10; then 62;
-** then 11 to 15, or 24, 25, 27, 28, 29; then 17, 18, 19.  A row, a pattern or
-** a replacement is read from left to right, up to its first fault; a number
-** that stands behind the tree's end is 9, 15 or 29, whatever it is.
+** then 11 to 15, or 63, 64, or 24, 25, 27, 28, 29; then 17, 18, 19.  A row, a
+** pattern or a replacement is read from left to right, up to its first fault;
+** a number that stands behind the tree's end is 9, 15 or 29, whatever it is.
+**
+** A sheet is never refused with 11 to 15: these stand in the result of the
+** pattern that they are about.
 */
 enum {
   SPARROWHEM_ANSWERED          = 0,
@@ -168,7 +207,9 @@ enum {
   /* the new row would be over 16384 long, or longer than its buffer, the table
   ** or the classes: its length */
   SPARROWHEM_TOO_LONG          = 18,
-  /* there are more matches than places in the output: the number of matches */
+  /* there are more matches than places in the output: the number of matches;
+  ** in a sheet also, and before that, there are fewer places for the results
+  ** than three a pattern: three times the number of the patterns */
   SPARROWHEM_OUTPUT_SHORT      = 19,
 
   /* as 4, 5, 7, 8, 9, for the replacement */
@@ -179,7 +220,13 @@ enum {
   SPARROWHEM_REPLACEMENT_EXTRA = 29,
 
   /* a class is not the row's: the first such position */
-  SPARROWHEM_STALE_CLASS       = 62
+  SPARROWHEM_STALE_CLASS       = 62,
+
+  /* a sheet has no length, or over 64 of them: how many it has */
+  SPARROWHEM_SHEET_SIZE        = 63,
+  /* the lengths of a sheet do not add up to the numbers lent as patterns: how
+  ** many numbers are lent as patterns */
+  SPARROWHEM_SHEET_SUM         = 64
 };
 
 /*
@@ -228,7 +275,7 @@ static inline const char *sparrowhem_refusal_text(uint32_t refusal){
       return "the row would after the replacement be longer than 16,384, "
              "than its buffer, than the table or than the classes";
     case SPARROWHEM_OUTPUT_SHORT:
-      return "the output has too few places";
+      return "the output, or one of the two of a sheet, has too few places";
     case SPARROWHEM_REPLACEMENT_EMPTY:
       return "the replacement has length 0";
     case SPARROWHEM_REPLACEMENT_LONG:
@@ -241,6 +288,11 @@ static inline const char *sparrowhem_refusal_text(uint32_t refusal){
       return "the tree is at its end and the replacement is not";
     case SPARROWHEM_STALE_CLASS:
       return "the classes are stale: one is not the row's";
+    case SPARROWHEM_SHEET_SIZE:
+      return "the sheet has no pattern, or more than 64";
+    case SPARROWHEM_SHEET_SUM:
+      return "the lengths of the sheet do not add up to the numbers lent as "
+             "patterns";
     default:
       return "no call gives this number";
   }
@@ -313,6 +365,48 @@ sparrowhem_answer sparrowhem_find(
 );
 
 /*
+** Sheet: looks for each pattern of a sheet in one row.  Alphabet, row, table
+** and classes are checked once, and then each pattern is answered as find
+** would answer it alone.
+**
+** `patterns` has the patterns end to end, and `lengths` has how many numbers
+** each takes; there are as many patterns as lengths, 1 to 64.
+**
+** To the front of `positions` go the positions of pattern 0, rising, then
+** those of pattern 1, and so on, with no gap.  To the front of `results` go
+** three numbers for each pattern i:
+**
+**     number 3*i        0, or the refusal of this pattern, 11 to 15
+**     number 3*i + 1    0, or the refusal's place, counted from this
+**                       pattern's own begin
+**     number 3*i + 2    how many positions this pattern has; 0 if refused
+**
+** So the positions of a pattern begin where the counts of those before it add
+** up to.  `count` is all positions together.  Numbers of both outputs behind
+** what is written stay.
+**
+** A pattern's own fault never refuses the call: it stands in the pattern's
+** result, the pattern adds no position, and the others are answered.  A length
+** of 0 is such a fault (11, place 0), and so is one over 256 (12, the length).
+**
+** Refuses with 1 to 10, 62, 63, 64, then 19 for the results, then 19 for the
+** positions, and then has written nothing in either output.  Three numbers a
+** pattern are always enough for the results, and the row's length times the
+** number of the patterns, at most 1048576, for the positions; where nothing
+** matches, positions without places are enough.
+*/
+sparrowhem_answer sparrowhem_sheet(
+  const uint8_t *arities,  size_t arities_bytes,
+  const uint8_t *row,      size_t row_bytes,
+  const uint8_t *table,    size_t table_bytes,
+  const uint8_t *classes,  size_t classes_bytes,
+  const uint8_t *patterns, size_t patterns_bytes,
+  const uint8_t *lengths,  size_t lengths_bytes,
+  uint8_t *positions,      size_t positions_bytes,
+  uint8_t *results,        size_t results_bytes
+);
+
+/*
 ** Replace: in the row of the first `row_length` numbers of the buffer `row`,
 ** whose table and classes stand at the front of `table` and `classes`, the
 ** subtree at `position` gives way to the row `replacement`.  All three are
@@ -360,7 +454,8 @@ sparrowhem_answer sparrowhem_replace(
 **     }
 **
 ** After this a.count is 2, and sparrowhem_get(out, 0) and (out, 1) are the
-** positions 1 and 2.  host/example.c is a longer one.
+** positions 1 and 2.  host/example.c is a longer one, and host/morning.c one
+** of a sheet.
 */
 
 #ifdef __cplusplus

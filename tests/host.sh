@@ -1,5 +1,5 @@
 #!/usr/bin/env bash
-# The archive for C from the host's side: its header, the example, a C program of checks, and random inputs held against an
+# The archive for C from the host's side: its header, the examples, a C program of checks, and random inputs held against an
 # independent model. The C programs are for x86-64, compiled by the Rattle kit alone; on Arm they run under the kit's emulator.
 # The random inputs go by a seed; SEED and INPUTS in the environment set them.
 # needs: gcc rustc
@@ -47,22 +47,27 @@ drive() {
     $out/drive --seed "${SEED:-20260101}" "$@" $(kit_words) "$server"
 }
 
-# noticed SERVER [FLAG..]: the model and that server differ on some input.
+# noticed KINDS SERVER [FLAG..]: the model and that server differ on an input of each of so many kinds, of the five that there are: build,
+# find, replace, runs of replacements, sheet.
 noticed() {
+    local kinds=$1
+    shift
     drive "$@" >$out/noticed
-    grep -Eq '^FAILED: seed [0-9]+, input' $out/noticed
+    [ "$(grep -Ec '^FAILED: seed [0-9]+, input' $out/noticed)" -eq "$kinds" ]
 }
-unnoticed() { ! noticed "$@"; }
 header_as() { echo '#include <sparrowhem.h>' | "$@" -Wall -Wextra -Werror -Iinclude -fsyntax-only -; }
 texts_of_scope() {
     kit_run $out/texts | diff <(sed -nE '/^## Refusals/,/^### /{ /`seek`/d; s/^\| ([0-9]+) \| ([^|]+) \|.*/\1 \2/p }' docs/SCOPE.md) -
 }
-example_as_shown() { kit_run $out/shown | diff tests/host/example.out -; }
+example_as_shown() { kit_run $out/shown | diff tests/host/"$1".out -; }
+installed() {
+    rm -rf "$PWD/$out/prefix"
+    sh host/build.sh "$PWD/$out/prefix" && ! grep -q @ $out/prefix/lib/pkgconfig/sparrowhem.pc
+}
 example_installed() {
     local prefix=$PWD/$out/prefix
-    rm -rf "$prefix"
-    sh host/build.sh "$prefix" && ! grep -q @ "$prefix/lib/pkgconfig/sparrowhem.pc" && $out/example | diff tests/host/example.out - &&
-        gcc -std=c99 -I"$prefix/include" -o $out/installed host/example.c -L"$prefix/lib" -lsparrowhem && $out/installed | diff tests/host/example.out -
+    "$out/$1" | diff tests/host/"$1".out - &&
+        gcc -std=c99 -I"$prefix/include" -o $out/installed host/"$1".c -L"$prefix/lib" -lsparrowhem && $out/installed | diff tests/host/"$1".out -
 }
 seek_installed() {
     local prefix=$PWD/$out/prefix
@@ -83,8 +88,10 @@ try "the archive is proved and built" rt staticlib host
 try "the header is C99" header_as gcc -x c -std=c99 -pedantic
 try "the header is C11" header_as gcc -x c -std=c11 -pedantic
 try "the header is C++" header_as "$kit_tools/bin/clang" --target=$kit_target -nostdinc -isystem host/freestanding -x c++ -std=c++11 -pedantic
-try "the example, compiled by the kit" kit_cc $out/shown host/example.c
-try "the example prints what it should" example_as_shown
+for example in example morning; do
+    try "$example.c, compiled by the kit" kit_cc $out/shown host/$example.c
+    try "prints what it should" example_as_shown $example
+done
 try "the texts of refusals, compiled by the kit" kit_cc $out/texts tests/host/texts.c
 try "are those of docs/SCOPE.md" texts_of_scope
 try "the checks, compiled by the kit" kit_cc $out/checks tests/host/checks.c
@@ -94,7 +101,10 @@ try "are written" rows_of_the_benchmark
 try "the stack that build takes, compiled by the kit" kit_cc $out/stack tests/host/stack.c
 counted "the stack that build takes" stacked kit_run $out/stack
 if [ "$(uname -m)" = x86_64 ]; then
-    try "the example, by the machine's own compiler and as installed" example_installed
+    try "archive, header and seek are installed" installed
+    for example in example morning; do
+        try "$example.c, by the machine's own compiler and as installed" example_installed $example
+    done
     try "seek as installed, without the kit, and its man page" seek_installed
     try "the checks, compiled by gcc" checks_by_gcc
     counted "the checks, by gcc" $out/checks_gcc
@@ -104,10 +114,14 @@ fi
 try "the server, compiled by the kit" kit_cc $out/serve tests/host/serve.c
 try "the model and its inputs, compiled by rustc" rustc --edition 2021 -O -D warnings -o $out/drive tests/host/drive.rs
 counted "random inputs" drive $out/serve --inputs "${INPUTS:-100000}"
-try "a right server is not found wrong" unnoticed $out/serve --inputs 400
-for byte in 0 4 8 16 24 28 1000000; do
+try "a right server is not found wrong" noticed 0 $out/serve --inputs 500
+for byte in 0 4 8 16 24 28 10000000; do
     try "a server with a wrong bit at $byte" kit_cc $out/wrong tests/host/serve.c -DWRONG=$byte
-    try "is noticed" noticed $out/wrong --inputs 400
+    try "is noticed in each call" noticed 5 $out/wrong --inputs 500
+done
+for list in OUTPUT:2 RESULTS:1; do # find and sheet write an output, sheet alone results
+    try "a server with a wrong bit in ${list%:*}" kit_cc $out/wrong tests/host/serve.c -DWRONG_IN="${list%:*}"
+    try "is noticed" noticed "${list#*:}" $out/wrong --inputs 500
 done
 echo "$passed passed, $failed failed"
 [ "$failed" -eq 0 ]

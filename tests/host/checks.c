@@ -8,10 +8,12 @@
 #include <sparrowhem.h>
 #include "painted.h"
 
-enum { GUARD = 33, BIG = 16384 };
+enum { GUARD = 33, BIG = 16384, SHEET = SPARROWHEM_MOST_SHEET };
 
-static uint8_t arena[1 << 18] __attribute__((aligned(2))), expected[1 << 18];
-static size_t used;
+/* Most cases have room in a part of the arena; `reach` is how much of it the case takes. */
+enum { SMALL = 1 << 18, WIDE = 1 << 22 };
+static uint8_t arena[WIDE] __attribute__((aligned(2))), expected[WIDE];
+static size_t used, reach;
 static unsigned passed, failed;
 
 typedef struct {
@@ -43,14 +45,19 @@ static lent lend(const unsigned *numbers, size_t count) {
 }
 
 /* The case begins: nothing is lent. */
-static void start(void) {
+static void start_in(size_t bytes) {
     used = 0;
-    memset(arena, 0x99, sizeof arena);
+    reach = bytes;
+    memset(arena, 0x99, reach);
+}
+
+static void start(void) {
+    start_in(SMALL);
 }
 
 /* The lists are lent; what stands in the arena now is expected afterwards, but for the numbers below. */
 static void ready(void) {
-    memcpy(expected, arena, sizeof arena);
+    memcpy(expected, arena, reach);
 }
 
 static void expect(lent list, size_t from, const unsigned *numbers, size_t count) {
@@ -63,7 +70,7 @@ static void expect(lent list, size_t from, const unsigned *numbers, size_t count
 
 static void check(const char *name, sparrowhem_answer a, unsigned refusal, int change, uint64_t place, uint64_t count) {
     int right = a.refusal == refusal && a.change == change && a.place == place && a.count == count;
-    int same = memcmp(arena, expected, sizeof arena) == 0;
+    int same = memcmp(arena, expected, reach) == 0;
     if (right && same) {
         passed++;
         return;
@@ -96,6 +103,10 @@ static sparrowhem_answer find(lent a, lent w, lent t, lent c, lent q, lent o) {
 
 static sparrowhem_answer replace(lent a, lent w, lent t, lent c, uint64_t n, lent v, uint64_t p) {
     return sparrowhem_replace(a.at, a.bytes, w.at, w.bytes, t.at, t.bytes, c.at, c.bytes, n, v.at, v.bytes, p);
+}
+
+static sparrowhem_answer sheet(lent a, lent w, lent t, lent c, lent q, lent l, lent o, lent r) {
+    return sparrowhem_sheet(a.at, a.bytes, w.at, w.bytes, t.at, t.bytes, c.at, c.bytes, q.at, q.bytes, l.at, l.bytes, o.at, o.bytes, r.at, r.bytes);
 }
 
 /* The worked alphabet, row, table and classes. */
@@ -275,6 +286,187 @@ static void finds(void) {
     check("find, the same list as row and pattern", find(a, w, t, c, w, o), 0, 0, 0, 1);
 }
 
+/* A sheet over the worked programme: its patterns and lengths, what is expected in its two outputs, and how many bytes each has. */
+typedef struct {
+    const unsigned *patterns, *lengths, *positions, *results;
+    size_t m, k, count; /* numbers of the patterns, how many there are, and how many positions */
+} page;
+
+static void sheet_case(const char *name, page s, size_t positions_bytes, size_t results_bytes, unsigned refusal, uint64_t place) {
+    start();
+    lent a = lend(A, 5), w = lend_bytes(T, 9, 19), t = lend_bytes(ENDS, 9, 21), c = lend_bytes(CLASSES, 9, 25);
+    lent q = lend_bytes(s.patterns, s.m, 2 * s.m + 1), l = lend_bytes(s.lengths, s.k, 2 * s.k + 1);
+    lent o = lend_bytes(0, 0, positions_bytes), r = lend_bytes(0, 0, results_bytes);
+    ready();
+    if (refusal == SPARROWHEM_ANSWERED) {
+        expect(o, 0, s.positions, s.count);
+        expect(r, 0, s.results, 3 * s.k);
+    }
+    check(name, sheet(a, w, t, c, q, l, o, r), refusal, 0, place, refusal == SPARROWHEM_ANSWERED ? s.count : 0);
+}
+
+/* The outputs with just room, with more and with an odd byte are answered, and with a byte less refused: the results first. */
+static void sheet_cases(const char *name, page s) {
+    size_t o = 2 * s.count, r = 6 * s.k;
+    for (size_t more = 0; more < 12; more++) {
+        sheet_case(name, s, o + more % 3, r + more / 3, SPARROWHEM_ANSWERED, 0);
+    }
+    for (size_t less = 1; less < 3; less++) {
+        sheet_case("sheet 19, the results", s, o, r - less, SPARROWHEM_OUTPUT_SHORT, 3 * s.k);
+        sheet_case("sheet 19, the results before the positions", s, 0, r - less, SPARROWHEM_OUTPUT_SHORT, 3 * s.k);
+        if (o) sheet_case("sheet 19, the positions", s, o - less, r + 1, SPARROWHEM_OUTPUT_SHORT, s.count);
+    }
+}
+
+static void sheets(void) {
+    static const unsigned p1[] = {3, X0, X0, 1, 2, 9, 4, X0, S, X0}, l1[] = {3, 1, 2, 4}, o1[] = {1, 6, 5, 0};
+    static const unsigned r1[] = {0, 0, 2, 0, 0, 1, SPARROWHEM_PATTERN_STRAY, 1, 0, 0, 0, 1};
+    static const page worked = {p1, l1, o1, r1, COUNT(p1), COUNT(l1), COUNT(o1)};
+    sheet_cases("sheet, four patterns", worked);
+
+    /* every refusal of a pattern, each with a place that counts from the pattern's own begin; matches before, between and behind */
+    static unsigned p2[3 + 3 + 257 + 3 + 2 + 3 + 256 + 1] = {2, X1, 65296, 2, 2, S}, o2[] = {4, 2, 3, 7, 8};
+    static const unsigned l2[] = {3, 0, 3, 257, 3, 2, 3, 256, 1, 0};
+    static const unsigned r2[] = {SPARROWHEM_PATTERN_EXTRA, 2, 0, SPARROWHEM_PATTERN_EMPTY, 0, 0, 0, 0, 0, SPARROWHEM_PATTERN_LONG, 257, 0,
+        SPARROWHEM_PATTERN_EARLY, 3, 0, 0, 0, 1, SPARROWHEM_PATTERN_STRAY, 2, 0, 0, 0, 0, 0, 0, 4, SPARROWHEM_PATTERN_EMPTY, 0, 0};
+    static const unsigned tail[] = {3, 2, 1, 2, S, 3, 0, 65279};
+    unsigned *at = p2 + 6;
+    for (size_t i = 0; i < 257; i++) *at++ = wide[i];
+    for (size_t i = 0; i < COUNT(tail); i++) *at++ = tail[i];
+    for (size_t i = 0; i < 256; i++) *at++ = wide[i];
+    *at = 0;
+    page all_kinds = {p2, l2, o2, r2, COUNT(p2), COUNT(l2), COUNT(o2)};
+    sheet_cases("sheet, refused patterns among others", all_kinds);
+
+    /* no pattern is found, or none is lent at all */
+    static const unsigned p3[] = {4, X0, X0, S}, l3[] = {4}, r3[] = {0, 0, 0};
+    static const page unfound = {p3, l3, 0, r3, 4, 1, 0};
+    sheet_cases("sheet, nothing is found", unfound);
+    static unsigned r4[3 * SHEET];
+    for (size_t i = 0; i < SHEET; i++) r4[3 * i] = SPARROWHEM_PATTERN_EMPTY;
+    page empty = {0, zeros, 0, r4, 0, 1, 0};
+    sheet_cases("sheet, one empty pattern", empty);
+    empty.k = SHEET;
+    sheet_cases("sheet, 64 empty patterns", empty);
+
+    /* 63, and 64 by a number more or less */
+    page s = worked;
+    s.k = 0;
+    sheet_case("sheet 63, no length", s, 18, 18, SPARROWHEM_SHEET_SIZE, 0);
+    empty.k = SHEET + 1;
+    sheet_case("sheet 63, 65 lengths", empty, 18, 6 * SHEET + 6, SPARROWHEM_SHEET_SIZE, SHEET + 1);
+    s = worked, s.m--;
+    sheet_case("sheet 64, a number less", s, 18, 24, SPARROWHEM_SHEET_SUM, 9);
+    s = worked, s.k--;
+    sheet_case("sheet 64, a length less", s, 18, 24, SPARROWHEM_SHEET_SUM, 10);
+    s = worked, s.m = 0;
+    sheet_case("sheet 64, no patterns", s, 18, 24, SPARROWHEM_SHEET_SUM, 0);
+    s = empty, s.k = SHEET, s.patterns = p1, s.m = 1;
+    sheet_case("sheet 64, 64 empty patterns and a number", s, 0, 6 * SHEET, SPARROWHEM_SHEET_SUM, 1);
+    sheet_case("sheet 64 before 19", s, 0, 0, SPARROWHEM_SHEET_SUM, 1);
+    s.k = SHEET + 1;
+    sheet_case("sheet 63 before 64", s, 0, 6 * SHEET + 6, SPARROWHEM_SHEET_SIZE, SHEET + 1);
+    sheet_case("sheet 63 before 19", s, 0, 0, SPARROWHEM_SHEET_SIZE, SHEET + 1);
+}
+
+/* What is lent is null, short, too long, stale, or one list twice; and the order of it all. */
+static void sheets_in_order(void) {
+    static const unsigned q1[] = {3, X0, X0}, three[] = {3}, one[] = {1}, found[] = {1, 6}, two_found[] = {0, 0, 2}, five[] = {5}, one_found[] = {0, 0, 1};
+    static const unsigned over[] = {0, 16, 17}, no_leaf[] = {1}, stray[] = {3, 9, 0}, stale_ends[] = {9, 4, 3, 4, 6, 6, 9, 8, 8};
+    static const unsigned stale_classes[] = {0, 1, 2, 2, 4, 5, 1, 2, 3};
+    start();
+    lent a = lend(A, 5), w = lend(T, 9), t = lend(ENDS, 9), c = lend(CLASSES, 9), q = lend(q1, 3), l = lend(three, 1);
+    lent o = lend_bytes(0, 0, 4), r = lend_bytes(0, 0, 6), many = lend(thousand, 1025), high = lend(over, 3), leafless = lend(no_leaf, 1);
+    lent long_w = lend(chain, BIG + 1), bad_w = lend(stray, 3), bad_t = lend(stale_ends, 9), bad_c = lend(stale_classes, 9), i = lend(one, 1);
+    lent short_t = {t.at, 17}, short_c = {c.at, 17}, early = {w.at, 16}, extra = {w.at + 2, 16};
+    ready();
+    check_refused("sheet 1, nothing at all", sheet(none, none, none, none, none, none, none, none), SPARROWHEM_ALPHABET_SIZE, 0);
+    check_refused("sheet 1", sheet(many, long_w, t, c, q, l, o, r), SPARROWHEM_ALPHABET_SIZE, 1025);
+    check_refused("sheet 2", sheet(high, long_w, t, c, q, l, o, r), SPARROWHEM_ARITY_OVER, 1);
+    check_refused("sheet 3", sheet(leafless, long_w, t, c, q, l, o, r), SPARROWHEM_NO_LEAF, 0);
+    check_refused("sheet 4, no row", sheet(a, none, t, c, q, l, o, r), SPARROWHEM_ROW_EMPTY, 0);
+    check_refused("sheet 5", sheet(a, long_w, t, c, q, l, o, r), SPARROWHEM_ROW_LONG, BIG + 1);
+    check_refused("sheet 6, the table", sheet(a, w, short_t, c, q, l, o, r), SPARROWHEM_BUFFER_SHORT, 9);
+    check_refused("sheet 6, the classes", sheet(a, w, t, short_c, q, l, o, r), SPARROWHEM_BUFFER_SHORT, 9);
+    check_refused("sheet 7", sheet(a, bad_w, t, c, q, l, o, r), SPARROWHEM_ROW_STRAY, 1);
+    check_refused("sheet 8", sheet(a, early, t, c, q, l, o, r), SPARROWHEM_ROW_EARLY, 8);
+    check_refused("sheet 9", sheet(a, extra, t, c, q, l, o, r), SPARROWHEM_ROW_EXTRA, 3);
+    check_refused("sheet 10", sheet(a, w, bad_t, c, q, l, o, r), SPARROWHEM_STALE, 8);
+    check_refused("sheet 10 before 62", sheet(a, w, bad_t, bad_c, q, l, o, r), SPARROWHEM_STALE, 8);
+    check_refused("sheet 62", sheet(a, w, t, bad_c, q, l, o, r), SPARROWHEM_STALE_CLASS, 8);
+    check_refused("sheet 10 before 63", sheet(a, w, bad_t, c, q, none, o, r), SPARROWHEM_STALE, 8);
+    check_refused("sheet 62 before 63", sheet(a, w, t, bad_c, q, none, o, r), SPARROWHEM_STALE_CLASS, 8);
+    check_refused("sheet 62 before 64", sheet(a, w, t, bad_c, none, l, o, r), SPARROWHEM_STALE_CLASS, 8);
+    check_refused("sheet 62 before 19", sheet(a, w, t, bad_c, q, l, none, none), SPARROWHEM_STALE_CLASS, 8);
+    check_refused("sheet 63, no lengths", sheet(a, w, t, c, q, none, o, r), SPARROWHEM_SHEET_SIZE, 0);
+    check_refused("sheet 63, neither patterns nor lengths", sheet(a, w, t, c, none, none, none, none), SPARROWHEM_SHEET_SIZE, 0);
+    check_refused("sheet 64, no patterns", sheet(a, w, t, c, none, l, none, none), SPARROWHEM_SHEET_SUM, 0);
+    check_refused("sheet 64, patterns for lengths and lengths for patterns", sheet(a, w, t, c, l, q, o, r), SPARROWHEM_SHEET_SUM, 1);
+    check_refused("sheet 19, no results", sheet(a, w, t, c, q, l, o, none), SPARROWHEM_OUTPUT_SHORT, 3);
+    check_refused("sheet 19, no outputs", sheet(a, w, t, c, q, l, none, none), SPARROWHEM_OUTPUT_SHORT, 3);
+    check_refused("sheet 19, no positions", sheet(a, w, t, c, q, l, none, r), SPARROWHEM_OUTPUT_SHORT, 2);
+    check_refused("sheet 19, results for positions and positions for results", sheet(a, w, t, c, q, l, r, o), SPARROWHEM_OUTPUT_SHORT, 3);
+    expect(o, 0, found, 2);
+    expect(r, 0, two_found, 3);
+    check("sheet of one pattern", sheet(a, w, t, c, q, l, o, r), 0, 0, 0, 2);
+    expect(o, 0, five, 1);
+    expect(r, 0, one_found, 3);
+    check("sheet, the same list as patterns and lengths", sheet(a, w, t, c, i, i, o, r), 0, 0, 0, 1);
+}
+
+/* Sums of lengths that 16 bits do not hold. What is lent as patterns is all zeros, too much for the arena. */
+static void long_sums(void) {
+    static uint8_t nothing[2 * 65535 * SHEET];
+    static unsigned lengths[SHEET], results[3 * SHEET];
+    for (size_t i = 0; i < SHEET; i++) {
+        lengths[i] = 65535;
+        results[3 * i] = SPARROWHEM_PATTERN_LONG;
+        results[3 * i + 1] = 65535;
+    }
+    start();
+    lent a = lend(A, 5), w = lend(T, 9), t = lend(ENDS, 9), c = lend(CLASSES, 9), l = lend(lengths, SHEET), r = lend_bytes(0, 0, 6 * SHEET);
+    lent q = {nothing, sizeof nothing}, less = {nothing, sizeof nothing - 1}, cut = {nothing, 2 * (65535 * SHEET % 65536)};
+    ready();
+    check_refused("sheet 64, 4,194,239 numbers", sheet(a, w, t, c, less, l, none, r), SPARROWHEM_SHEET_SUM, 65535 * SHEET - 1);
+    check_refused("sheet 64, what 16 bits leave of the sum", sheet(a, w, t, c, cut, l, none, r), SPARROWHEM_SHEET_SUM, 65535 * SHEET % 65536);
+    expect(r, 0, results, 3 * SHEET);
+    check("sheet, 64 patterns of 65,535", sheet(a, w, t, c, q, l, none, r), 0, 0, 0, 0);
+
+    static const unsigned halves[] = {32768, 32768, 1}, leaf_at[] = {2, 3, 7, 8};
+    static const unsigned of_halves[] = {SPARROWHEM_PATTERN_LONG, 32768, 0, SPARROWHEM_PATTERN_LONG, 32768, 0, 0, 0, 4};
+    start();
+    a = lend(A, 5), w = lend(T, 9), t = lend(ENDS, 9), c = lend(CLASSES, 9), l = lend(halves, 3), r = lend_bytes(0, 0, 18);
+    lent o = lend_bytes(0, 0, 8), leaf = {nothing, 2}, all = {nothing, 2 * 65537}, short_l = {l.at, 4};
+    ready();
+    check_refused("sheet 64, 65,537 for 1", sheet(a, w, t, c, leaf, l, o, r), SPARROWHEM_SHEET_SUM, 1);
+    check_refused("sheet 64, 65,536 for 0", sheet(a, w, t, c, none, short_l, o, r), SPARROWHEM_SHEET_SUM, 0);
+    check_refused("sheet 64, 65,536 for 65,537", sheet(a, w, t, c, all, short_l, o, r), SPARROWHEM_SHEET_SUM, 65537);
+    expect(o, 0, leaf_at, 4);
+    expect(r, 0, of_halves, 9);
+    check("sheet, a pattern behind 65,536 numbers", sheet(a, w, t, c, all, l, o, r), 0, 0, 0, 4);
+}
+
+/* The fullest sheet: 64 times S over 16,384 symbols, with just room, and with a place too few for it. */
+static void fullest_sheet(void) {
+    static unsigned any[SHEET], ones[SHEET], results[3 * SHEET];
+    for (size_t i = 0; i < SHEET; i++) {
+        any[i] = S;
+        ones[i] = 1;
+        results[3 * i + 2] = BIG;
+    }
+    for (size_t just = 0; just < 2; just++) {
+        start_in(WIDE);
+        lent a = lend(A, 5), w = lend(chain, BIG), t = lend(chain_ends, BIG), c = lend(own, BIG), q = lend(any, SHEET), l = lend(ones, SHEET);
+        lent o = lend_bytes(0, 0, 2 * SHEET * BIG - !just), r = lend_bytes(0, 0, 6 * SHEET);
+        ready();
+        for (size_t i = 0; just && i < SHEET; i++) {
+            expect(o, i * BIG, own, BIG);
+        }
+        if (just) expect(r, 0, results, 3 * SHEET);
+        check("sheet, 1,048,576 positions", sheet(a, w, t, c, q, l, o, r), just ? 0 : SPARROWHEM_OUTPUT_SHORT, 0, just ? 0 : 1048576, just ? 1048576 : 0);
+    }
+}
+
 /* The worked programme with other classes: find and replace refuse with 62, at the first that is not the row's. */
 static void misclassed(const char *name, const unsigned *classes, uint64_t place) {
     static const unsigned any[] = {S}, leaf[] = {1};
@@ -445,12 +637,13 @@ static void classes_far_away(void) {
 }
 
 /* What a call takes of the stack. */
-static lent run_a, run_w, run_t, run_c, run_q, run_o;
+static lent run_a, run_w, run_t, run_c, run_q, run_o, run_qs, run_ls, run_ps, run_rs;
 static size_t run_n;
 
 static void run_nothing(void) {}
 static void run_build(void) { build(run_a, run_w, run_t, run_c); }
 static void run_find(void) { find(run_a, run_w, run_t, run_c, run_q, run_o); }
+static void run_sheet(void) { sheet(run_a, run_w, run_t, run_c, run_qs, run_ls, run_ps, run_rs); }
 static void run_replace(void) { replace(run_a, run_w, run_t, run_c, run_n, run_o, 0); }
 
 static void check_stack(const char *call, void (*run)(void), size_t kib) {
@@ -459,37 +652,63 @@ static void check_stack(const char *call, void (*run)(void), size_t kib) {
     check_that("a call takes no more stack than the header says", most < kib * 1024);
 }
 
-/* What the header says, in KiB: build; find and replace in a row of at most 256 symbols; and in the longest. */
-enum { BUILD_KIB = 6, SHORT_KIB = 12, FIND_KIB = 192, REPLACE_KIB = 228 };
+/* What the header says, in KiB: of the calls in a row of at most 256 symbols, and in the longest. */
+typedef struct {
+    size_t build, find, sheet, replace;
+} kibs;
 
-/* A row of n symbols; find with S alone; replace of the whole row by one as long; then find once more, with a wrong last class. */
-static void stacks_of(const unsigned *row, size_t n, size_t build_kib, size_t find_kib, size_t replace_kib) {
+static const kibs SHORT = {6, 12, 16, 12}, LONG = {6, 192, 268, 228};
+
+/* A row of n symbols; find with S alone; a full sheet, whose patterns are S but for one of 256 symbols and one too long; replace of the
+   whole row by one as long; then find and the sheet once more, with a wrong last class; and find with a pattern that is too long and a
+   sheet with too many lengths, which take the room of the longest row. */
+static void stacks_of(const unsigned *row, size_t n, kibs under) {
     static const unsigned any[] = {S};
-    start();
+    static unsigned patterns[SHEET - 2 + 256 + 257], lengths[SHEET];
+    for (size_t i = 0; i < SHEET; i++) {
+        patterns[i] = S;
+        lengths[i] = 1;
+    }
+    lengths[SHEET - 2] = 256;
+    lengths[SHEET - 1] = 257;
+    for (size_t i = 0; i < 256; i++) patterns[SHEET - 2 + i] = wide[i];
+    start_in(WIDE);
     run_n = n;
     run_a = lend(A, 5), run_w = lend(row, n), run_t = lend(zeros, n), run_c = lend(zeros, n), run_q = lend(any, 1), run_o = lend(zeros, n);
-    check_stack("build", run_build, build_kib);
+    run_qs = lend(patterns, COUNT(patterns)), run_ls = lend(lengths, SHEET), run_ps = lend_bytes(0, 0, 2 * SHEET * n), run_rs = lend_bytes(0, 0, 6 * SHEET);
+    check_stack("build", run_build, under.build);
     check_that("which answered", build(run_a, run_w, run_t, run_c).refusal == SPARROWHEM_ANSWERED);
-    check_stack("find", run_find, find_kib);
+    check_stack("find", run_find, under.find);
     check_that("which answered", sparrowhem_get(run_o.at, n - 1) == n - 1);
+    check_stack("sheet", run_sheet, under.sheet);
+    check_that("which answered", sparrowhem_get(run_rs.at, 3 * SHEET - 3) == SPARROWHEM_PATTERN_LONG);
     memcpy(run_o.at, run_w.at, run_w.bytes);
-    check_stack("replace", run_replace, replace_kib);
+    check_stack("replace", run_replace, under.replace);
     check_that("which answered", replace(run_a, run_w, run_t, run_c, n, run_o, 0).refusal == SPARROWHEM_ANSWERED);
     run_c.at[2 * n - 1] ^= 1;
-    check_stack("find, refused for a class,", run_find, find_kib);
+    check_stack("find, refused for a class,", run_find, under.find);
     check_that("which refused", find(run_a, run_w, run_t, run_c, run_q, run_o).refusal == SPARROWHEM_STALE_CLASS);
+    check_stack("sheet, refused for a class,", run_sheet, under.sheet);
+    check_that("which refused", sheet(run_a, run_w, run_t, run_c, run_qs, run_ls, run_ps, run_rs).refusal == SPARROWHEM_STALE_CLASS);
+    run_c.at[2 * n - 1] ^= 1;
+    run_q = run_qs;
+    check_stack("find, its pattern too long,", run_find, LONG.find);
+    check_that("which refused", find(run_a, run_w, run_t, run_c, run_q, run_o).refusal == SPARROWHEM_PATTERN_LONG);
+    run_ls = run_qs;
+    check_stack("sheet, its lengths too many,", run_sheet, LONG.sheet);
+    check_that("which refused", sheet(run_a, run_w, run_t, run_c, run_qs, run_ls, run_ps, run_rs).refusal == SPARROWHEM_SHEET_SIZE);
 }
 
 /* On a chain, and on a right comb of two leaves, in which half of the subtrees are leaves and no two of the others are equal. */
-static void stacks(size_t n, size_t build_kib, size_t find_kib, size_t replace_kib) {
+static void stacks(size_t n, kibs under) {
     static unsigned comb[BIG];
     for (size_t i = 0; i < n; i++) {
         comb[i] = i % 2 ? (unsigned)(i / 2 % 2) : 3;
     }
     comb[n - 2] = n % 2 ? comb[n - 2] : 2;
     comb[n - 1] = 0;
-    stacks_of(chain + BIG - n, n, build_kib, find_kib, replace_kib);
-    stacks_of(comb, n, build_kib, find_kib, replace_kib);
+    stacks_of(chain + BIG - n, n, under);
+    stacks_of(comb, n, under);
 }
 
 /* What the header itself defines. */
@@ -513,11 +732,15 @@ int main(void) {
     builds();
     finds();
     wrong_classes();
+    sheets();
+    sheets_in_order();
+    long_sums();
+    fullest_sheet();
     replaces();
     classes_far_away();
-    stacks(9, BUILD_KIB, SHORT_KIB, SHORT_KIB);
-    stacks(256, BUILD_KIB, SHORT_KIB, SHORT_KIB);
-    stacks(BIG, BUILD_KIB, FIND_KIB, REPLACE_KIB);
+    stacks(9, SHORT);
+    stacks(256, SHORT);
+    stacks(BIG, LONG);
     printf("%u passed, %u failed\n", passed, failed);
     return failed != 0;
 }

@@ -205,8 +205,10 @@ struct Lent {
     row: Vec<u8>,
     table: Vec<u8>,
     classes: Vec<u8>,
-    other: Vec<u8>, // pattern or replacement
+    other: Vec<u8>, // pattern or replacement, or the patterns of a sheet
+    lengths: Vec<u8>,
     out: Vec<u8>,
+    results: Vec<u8>,
     length: u64,
     position: u64,
 }
@@ -271,6 +273,42 @@ fn model_find(x: &mut Lent) -> Result<Answer, Refused> {
     Ok(Answer { count: found.len() as u64, ..Answer::default() })
 }
 
+// A sheet: patterns cut from one list by their lengths, each with the positions of its own matches. Numbers are wide here, so that
+// no sum is cut off.
+fn model_sheet(x: &mut Lent) -> Result<Answer, Refused> {
+    let (arities, t) = row_tree(x, x.row.len() as u64 / 2, room_beside(x))?;
+    stale(x, &t)?;
+    let (mut left, lengths) = (&numbers(&x.other)[..], numbers(&x.lengths));
+    if lengths.is_empty() || lengths.len() > 64 {
+        return Err((63, lengths.len() as u64));
+    }
+    if lengths.iter().map(|&n| n as u64).sum::<u64>() != left.len() as u64 {
+        return Err((64, left.len() as u64));
+    }
+    if x.results.len() / 2 < 3 * lengths.len() {
+        return Err((19, 3 * lengths.len() as u64));
+    }
+    let (mut all, mut results) = (vec![], vec![]);
+    for n in lengths {
+        let (list, rest) = left.split_at(n as usize);
+        left = rest;
+        match size_fault(n as u64, &PATTERN).and_then(|()| tree(&arities, list, &PATTERN)) {
+            Ok(p) => {
+                let found = positions(&p, &t);
+                results.extend([0, 0, found.len() as u16]);
+                all.extend(found);
+            }
+            Err((refusal, place)) => results.extend([refusal as u16, place as u16, 0]),
+        }
+    }
+    if x.out.len() / 2 < all.len() {
+        return Err((19, all.len() as u64));
+    }
+    store(&mut x.out, 0, &all);
+    store(&mut x.results, 0, &results);
+    Ok(Answer { count: all.len() as u64, ..Answer::default() })
+}
+
 fn model_replace(x: &mut Lent) -> Result<Answer, Refused> {
     let room = (x.row.len() / 2).min(room_beside(x));
     let (arities, t) = row_tree(x, x.length, room)?;
@@ -303,6 +341,7 @@ fn model_replace(x: &mut Lent) -> Result<Answer, Refused> {
 const BUILD: u32 = 1;
 const FIND: u32 = 2;
 const REPLACE: u32 = 3;
+const SHEET: u32 = 4;
 
 struct Server {
     child: Child,
@@ -320,7 +359,7 @@ impl Server {
 
     // The answer, and whether a byte changed that no call may change; the buffers are as the call left them.
     fn call(&mut self, call: u32, shift: u32, x: &mut Lent) -> (Answer, bool) {
-        let lists = [&x.arities, &x.row, &x.table, &x.classes, &x.other, &x.out];
+        let lists = [&x.arities, &x.row, &x.table, &x.classes, &x.other, &x.lengths, &x.out, &x.results];
         let mut q = vec![];
         q.extend(call.to_le_bytes());
         q.extend(shift.to_le_bytes());
@@ -329,14 +368,14 @@ impl Server {
         lists.iter().for_each(|l| q.extend((l.len() as u32).to_le_bytes()));
         lists.iter().for_each(|l| q.extend(l.iter()));
         self.to.write_all(&q).expect("the server reads");
-        let mut a = vec![0u8; 28 + x.row.len() + x.table.len() + x.classes.len() + x.out.len()];
+        let mut a = vec![0u8; 28 + x.row.len() + x.table.len() + x.classes.len() + x.out.len() + x.results.len()];
         self.from.read_exact(&mut a).expect("the server answers");
         let word = |i: usize| u32::from_le_bytes([a[i], a[i + 1], a[i + 2], a[i + 3]]);
         let long = |i: usize| word(i) as u64 + ((word(i + 4) as u64) << 32);
         let answer = Answer { refusal: word(0), change: word(4) as i32, place: long(8), count: long(16) };
         let damage = word(24) != 0;
         let mut left = &a[28..];
-        for list in [&mut x.row, &mut x.table, &mut x.classes, &mut x.out] {
+        for list in [&mut x.row, &mut x.table, &mut x.classes, &mut x.out, &mut x.results] {
             let (mine, rest) = left.split_at(list.len());
             list.copy_from_slice(mine);
             left = rest;
@@ -573,6 +612,59 @@ impl Dice {
         }
         q
     }
+
+    // One of a sheet's patterns, made of the row where that is `good`: found or not, or faulty, empty, or too long.
+    fn sheet_pattern(&mut self, k: &Kept) -> Vec<u16> {
+        let mut q = if k.good && !self.one_in(5) { self.pattern(&k.arities, &k.row, &k.table) } else { vec![BLANK] };
+        match self.below(40) {
+            0..=3 => self.damage(&mut q, k.arities.len()),
+            4 | 5 => q.clear(),
+            6 => {
+                q = vec![1; self.pick(&[254, 255, 256, 257, 300])];
+                q.push(BLANK);
+            }
+            _ => (),
+        }
+        q
+    }
+
+    fn sheet_size(&mut self) -> usize {
+        match self.below(40) {
+            0 => 0,
+            1..=3 => 1,
+            4..=6 => self.pick(&[63, 64, 64, 65, 66]),
+            7..=9 => self.below(67),
+            _ => 2 + self.below(8),
+        }
+    }
+
+    // Makes the lengths wrong, or the list that they cut: most sums are then no longer right, by a little or by just what 16 bits
+    // lose, and some are, with the patterns cut elsewhere.
+    fn wrong_lengths(&mut self, patterns: &mut Vec<u16>, lengths: &mut Vec<u16>) {
+        if lengths.is_empty() {
+            return patterns.push(BLANK);
+        }
+        let n = lengths.len();
+        let (i, j) = (self.below(n), self.below(n));
+        match self.below(8) {
+            0 => lengths[i] = lengths[i].wrapping_add(self.pick(&[1, 65535, 256, 32768])),
+            1 => patterns.push(BLANK),
+            2 => drop(patterns.pop()),
+            3 => drop(lengths.remove(i)),
+            // 65,536 more than is lent, in two lengths
+            4 | 5 if i != j && lengths[i] < 65535 => {
+                let more = 1 + self.below(65535 - lengths[i] as usize);
+                lengths[i] += more as u16;
+                lengths[j] = lengths[j].saturating_add((65536 - more) as u16);
+            }
+            6 => lengths.swap(i, j),
+            7 if i != j && lengths[i] > 0 && lengths[j] < 65535 => {
+                lengths[i] -= 1;
+                lengths[j] += 1;
+            }
+            _ => patterns.clear(),
+        }
+    }
 }
 
 // ---- the test --------------------------------------------------------------------------------------------------------------
@@ -583,7 +675,9 @@ struct Test {
     seed: u64,
     input: u64,
     answered: u64,
-    refused: [u64; 63],
+    refused: [u64; 65],
+    in_sheets: [u64; 16], // patterns of answered sheets, by their refusal or 0
+    short: [u64; 2],      // sheets refused with 19: for the results, for the positions
     wrong: Option<Wrong>,             // how the classes of the next input are made wrong
     misclassed: [u64; WRONGS.len()], // inputs refused with 62, by how
 }
@@ -612,6 +706,7 @@ impl Test {
         let told = match call {
             BUILD => model_build(&mut wanted),
             FIND => model_find(&mut wanted),
+            SHEET => model_sheet(&mut wanted),
             _ => model_replace(&mut wanted),
         };
         let want = told.unwrap_or_else(|(refusal, place)| Answer { refusal, place, ..Answer::default() });
@@ -628,13 +723,14 @@ impl Test {
         if got == want && *x == wanted && !damage {
             return Ok(got);
         }
-        let mut s = format!("FAILED: seed {}, input {}, call {}\n", self.seed, self.input, ["", "build", "find", "replace"][call as usize]);
+        let mut s = format!("FAILED: seed {}, input {}, call {}\n", self.seed, self.input, ["", "build", "find", "replace", "sheet"][call as usize]);
         s += &format!("  arities {}\n  row {}\n", shown(&given.arities), shown(&given.row));
         s += &format!("  table {}\n  classes {}\n", shown(&given.table), shown(&given.classes));
-        s += &format!("  pattern or replacement {}\n  output {}\n", shown(&given.other), shown(&given.out));
+        s += &format!("  patterns or replacement {}\n  lengths {}\n", shown(&given.other), shown(&given.lengths));
+        s += &format!("  output {}\n  results {}\n", shown(&given.out), shown(&given.results));
         s += &format!("  row length {}, position {}\n  wanted {:?}\n  got    {:?}\n", given.length, given.position, want, got);
         s += &format!("  row {}, table {}, classes {}", x.row == wanted.row, x.table == wanted.table, x.classes == wanted.classes);
-        s += &format!(", output {}, other bytes {}", x.out == wanted.out, !damage);
+        s += &format!(", output {}, results {}, other bytes {}", x.out == wanted.out, x.results == wanted.results, !damage);
         Err(s)
     }
 
@@ -720,6 +816,112 @@ impl Test {
         let places = d.pick(&[2 * found, 2 * found, 2 * found + 1, 2 * found + 8, (2 * found).saturating_sub(1), 2 * MOST + 11, 0]);
         x.out = d.buffer(&[], places);
         self.hold(FIND, &mut x).map(|_| ())
+    }
+
+    // What an answered sheet left: each result, and each stretch of positions, is what find gives for that pattern alone, in the model,
+    // and for a few of them in the archive. Of long rows only a few are looked at.
+    fn as_found_alone(&mut self, x: &Lent) -> Result<(), String> {
+        let (patterns, lengths, results) = (numbers(&x.other), numbers(&x.lengths), numbers(&x.results));
+        let (mut from, mut at) = (0, 0);
+        for (i, &n) in lengths.iter().enumerate() {
+            let pattern = bytes(&patterns[from..from + n as usize]);
+            let result = &results[3 * i..3 * i + 3];
+            let end = at + result[2] as usize;
+            let stretch = &x.out[2 * at..2 * end];
+            from += n as usize;
+            at = end;
+            self.in_sheets[(result[0] as usize).min(15)] += 1;
+            if x.row.len() > 2000 && !self.dice.one_in(16) {
+                continue;
+            }
+            let mut alone = Lent { other: pattern, lengths: vec![], out: vec![0; x.row.len()], results: vec![], ..x.clone() };
+            let found = if self.dice.one_in(16) {
+                let a = self.hold(FIND, &mut alone)?;
+                if a.refusal == 0 { Ok(a) } else { Err((a.refusal, a.place)) }
+            } else {
+                model_find(&mut alone)
+            };
+            let same = match found {
+                Ok(a) => *result == [0, 0, a.count as u16] && alone.out.starts_with(stretch),
+                Err((refusal, place)) => *result == [refusal as u16, place as u16, 0],
+            };
+            if !same {
+                return Err(format!("FAILED: seed {}, input {}: pattern {i} of a sheet is not answered as find does alone", self.seed, self.input));
+            }
+        }
+        Ok(())
+    }
+
+    fn sheets(&mut self) -> Result<(), String> {
+        let k = self.kept();
+        let d = &mut self.dice;
+        let (mut patterns, mut lengths) = (vec![], vec![]);
+        for _ in 0..d.sheet_size() {
+            let q = d.sheet_pattern(&k);
+            lengths.push(q.len() as u16);
+            patterns.extend(q);
+        }
+        match d.below(200) {
+            0..=19 => d.wrong_lengths(&mut patterns, &mut lengths),
+            // every length 0, and nothing lent
+            20..=24 => {
+                patterns.clear();
+                lengths.fill(0);
+            }
+            // a pattern that is as long as a length can be, so that the right sum is near the end of 16 bits, or behind it
+            25 => {
+                let n = 65535 - d.below(patterns.len() + 2).min(65535);
+                patterns.resize(patterns.len() + n, 0);
+                lengths.push(n as u16);
+                if d.one_in(2) {
+                    d.wrong_lengths(&mut patterns, &mut lengths);
+                }
+            }
+            // only so many numbers are lent as 16 bits leave of the sum
+            26 => {
+                lengths.push(d.pick(&[65535, 65534, 32768]));
+                lengths.push(d.pick(&[65535, 1, 2, 32768]));
+                let sum: usize = lengths.iter().map(|&n| n as usize).sum();
+                patterns.resize(sum % 65536, 0);
+            }
+            _ => (),
+        }
+        let [table, classes] = [&k.table, &k.classes].map(|list| {
+            let more = d.pick(&[0, 0, 1, 2, 9]);
+            let mut list = d.buffer(list, more);
+            if d.one_in(40) {
+                list.truncate(list.len().saturating_sub(1 + d.below(3)));
+            }
+            list
+        });
+        let mut x = Lent { arities: d.lend(&k.arities), row: d.lend(&k.row), table, classes, ..Lent::default() };
+        x.other = d.lend(&patterns);
+        x.lengths = d.lend(&lengths);
+        // with room for all: how many positions there are
+        let room = 2 * k.row.len() * lengths.len().min(64);
+        let count = model_sheet(&mut Lent { out: vec![0; room], results: vec![0; 6 * lengths.len()], ..x.clone() }).map_or(3, |a| a.count as usize);
+        // a byte short, just room, an odd byte, or more
+        let mut places = |n: usize| {
+            let [just, short] = [2 * n, (2 * n).saturating_sub(1 + d.below(2))];
+            let room = d.pick(&[just, just, just, just + 1, just + 1, just + 8, just + 331, short]);
+            let places = if d.one_in(60) { d.below(room + 1) } else { room };
+            d.buffer(&[], places)
+        };
+        x.out = places(count);
+        x.results = places(3 * lengths.len());
+        if count > 65535 && self.dice.one_in(2) {
+            x.out.truncate(2 * count - 1); // so that the place of a 19 takes more than 16 bits, now and then
+        }
+        let for_results = x.results.len() / 2 < 3 * lengths.len();
+        let a = self.hold(SHEET, &mut x)?;
+        match a.refusal {
+            0 => self.as_found_alone(&x),
+            19 => {
+                self.short[!for_results as usize] += 1;
+                Ok(())
+            }
+            _ => Ok(()),
+        }
     }
 
     fn replaces(&mut self) -> Result<(), String> {
@@ -839,9 +1041,25 @@ fn test() -> bool {
     let mut words: Vec<String> = std::env::args().skip(1).collect();
     let seed = number(&mut words, "--seed", 20260101);
     let inputs = number(&mut words, "--inputs", 100_000);
-    let mut t = Test { server: Server::start(&words), dice: Dice(seed), seed, input: 0, answered: 0, refused: [0; 63], wrong: None, misclassed: [0; WRONGS.len()] };
-    let kinds: [(&str, fn(&mut Test) -> Result<(), String>); 4] =
-        [("build", Test::builds), ("find", Test::finds), ("replace", Test::replaces), ("runs of replacements, put back", Test::runs)];
+    let mut t = Test {
+        server: Server::start(&words),
+        dice: Dice(seed),
+        seed,
+        input: 0,
+        answered: 0,
+        refused: [0; 65],
+        in_sheets: [0; 16],
+        short: [0; 2],
+        wrong: None,
+        misclassed: [0; WRONGS.len()],
+    };
+    let kinds: [(&str, fn(&mut Test) -> Result<(), String>); 5] = [
+        ("build", Test::builds),
+        ("find", Test::finds),
+        ("replace", Test::replaces),
+        ("runs of replacements, put back", Test::runs),
+        ("sheet", Test::sheets),
+    ];
     let (mut passed, mut failed) = (0, 0);
     for (i, (name, kind)) in kinds.iter().enumerate() {
         let until = inputs * (i as u64 + 1) / kinds.len() as u64;
@@ -865,11 +1083,23 @@ fn test() -> bool {
         println!("FAILED: the server did not end well");
         failed += 1;
     }
-    let all = [1, 2, 3, 4, 5, 6, 7, 8, 9, 10, 11, 12, 13, 14, 15, 17, 18, 19, 24, 25, 27, 28, 29, 62];
+    let all = [1, 2, 3, 4, 5, 6, 7, 8, 9, 10, 11, 12, 13, 14, 15, 17, 18, 19, 24, 25, 27, 28, 29, 62, 63, 64];
     match all.iter().find(|&&r| t.refused[r] == 0) {
         None => passed += 1,
         Some(r) => {
             println!("FAILED: seed {seed}: no input was refused with {r}");
+            failed += 1;
+        }
+    }
+    let in_a_sheet = [0, 11, 12, 13, 14, 15];
+    match in_a_sheet.iter().find(|&&r| t.in_sheets[r] == 0) {
+        None if t.short[0] > 0 && t.short[1] > 0 => passed += 1,
+        None => {
+            println!("FAILED: seed {seed}: no sheet was refused with 19 for its results, or none for its positions");
+            failed += 1;
+        }
+        Some(r) => {
+            println!("FAILED: seed {seed}: no pattern of a sheet has {r} in its result");
             failed += 1;
         }
     }
@@ -882,6 +1112,8 @@ fn test() -> bool {
     }
     let told: Vec<String> = all.iter().map(|&r| format!("{r}: {}", t.refused[r])).collect();
     println!("seed {seed}: {} inputs, {} answered, refused by number {}", t.input, t.answered, told.join(", "));
+    let told: Vec<String> = in_a_sheet.iter().map(|&r| format!("{r}: {}", t.in_sheets[r])).collect();
+    println!("patterns of answered sheets, by refusal {}; 19 for results {}, for positions {}", told.join(", "), t.short[0], t.short[1]);
     println!("{passed} passed, {failed} failed");
     failed == 0
 }

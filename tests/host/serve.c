@@ -1,20 +1,21 @@
 /* The archive as a server, so that a test on any machine can drive it: reads requests on standard input, writes answers on
    standard output, until the input ends.
 
-   A request: u32 call (1 build, 2 find, 3 replace), u32 shift, u64 row length, u64 position, u32 bytes of each of six lists
-   (arities, row, table, classes, pattern or replacement, output), then the lists. Each list is lent at an address that is odd
-   where the shift is, with guard bytes round it; a list of no bytes by a null pointer.
-   An answer: u32 refusal, i32 change, u64 place, u64 count, u32 damage, then row, table, classes and output as the call left them.
-   Damage is 1 where a guard byte, or a list that is only read, has changed. All numbers have their low byte first. */
+   A request: u32 call (1 build, 2 find, 3 replace, 4 sheet), u32 shift, u64 row length, u64 position, u32 bytes of each of eight
+   lists (arities, row, table, classes, pattern or replacement or a sheet's patterns, its lengths, output, a sheet's results), then
+   the lists. Each list is lent at an address that is odd where the shift is, with guard bytes round it; a list of no bytes by a
+   null pointer.
+   An answer: u32 refusal, i32 change, u64 place, u64 count, u32 damage, then row, table, classes, output and results as the call
+   left them. Damage is 1 where a guard byte, or a list that is only read, has changed. All numbers have their low byte first. */
 #include <stddef.h>
 #include <stdint.h>
 #include <string.h>
 #include <unistd.h>
 #include <sparrowhem.h>
 
-enum { ARITIES, ROW, TABLE, CLASSES, OTHER, OUTPUT, LISTS };
-enum { BUILD = 1, FIND, REPLACE };
-enum { MOST = 80000, GUARD = 64 };
+enum { ARITIES, ROW, TABLE, CLASSES, OTHER, LENGTHS, OUTPUT, RESULTS, LISTS };
+enum { BUILD = 1, FIND, REPLACE, SHEET };
+enum { MOST = 2200000, GUARD = 64 }; /* all positions of a sheet are up to 2,097,152 bytes */
 
 static uint8_t space[LISTS][MOST + 2 * GUARD + 2] __attribute__((aligned(64)));
 static uint8_t lists[LISTS * MOST], answer[28 + LISTS * MOST];
@@ -51,7 +52,8 @@ static int writes(uint32_t call, int list) {
     case ROW: return call == REPLACE;
     case TABLE:
     case CLASSES: return call == BUILD || call == REPLACE;
-    case OUTPUT: return call == FIND;
+    case OUTPUT: return call == FIND || call == SHEET;
+    case RESULTS: return call == SHEET;
     default: return 0;
     }
 }
@@ -85,6 +87,9 @@ int main(void) {
         case REPLACE:
             a = sparrowhem_replace(LENT(ARITIES), LENT(ROW), LENT(TABLE), LENT(CLASSES), q.length, LENT(OTHER), q.position);
             break;
+        case SHEET:
+            a = sparrowhem_sheet(LENT(ARITIES), LENT(ROW), LENT(TABLE), LENT(CLASSES), LENT(OTHER), LENT(LENGTHS), LENT(OUTPUT), LENT(RESULTS));
+            break;
         default: return 1;
         }
         next = lists;
@@ -98,8 +103,11 @@ int main(void) {
         memcpy(next + 24, &damage, 4);
         next += 28;
         for (int i = ROW; i < LISTS; i++) {
-            if (i == OTHER) continue;
+            if (i == OTHER || i == LENGTHS) continue;
             memcpy(next, list[i], q.bytes[i]);
+#ifdef WRONG_IN /* a server that leaves one wrong bit at the front of that list */
+            if (i == WRONG_IN && q.bytes[i]) *next ^= 1;
+#endif
             next += q.bytes[i];
         }
 #ifdef WRONG /* a server whose answers have one wrong bit, in that byte or in the last: the test must notice */

@@ -1,7 +1,7 @@
 -- What the checks of sizes leave, and the checks that come after them.
 -- Assumes nothing.
-use Prim.Native.Nat.{ℕ, _≤_, _<_}
-use mathlib.Core.Path.{_≡_, refl, sym, ap, _∙_}
+use Prim.Native.Nat.{ℕ, _<_}
+use mathlib.Core.Path.{_≡_, sym, ap, _∙_}
 use mathlib.Core.List.{List}
 use native.Mathlib.Omega.{arith}
 use borrow.Author.Tests.{lt-ltb, le-ltb}
@@ -11,7 +11,6 @@ use Rattle.rows.specs.Programme.{Alphabet, Programme, room, front}
 use Rattle.rows.specs.Row.{sized, reading}
 use Rattle.rows.specs.Refusals.{_then_, alphabet, sizes, symbols, fresh, classed, kept, given, pattern, replacement}
 use Rattle.rows.specs.declared.Fault.the-variants.{Long}
-use Rattle.rows.specs.declared.Refusal.{Refusal}
 use Rattle.rows.specs.declared.Refusal.the-variants.{Row, Pattern, Replacement}
 use Rattle.rows.specs.declared.Check.{Check}
 use Rattle.rows.specs.declared.Check.the-variants.{Fine, Refused}
@@ -32,12 +31,16 @@ module _ (a : Alphabet) (P : Programme) (n : ℕ) where
   pub sizes-left : sizesCheck a n (room P) ≡ Fine → Fits n (room P)
   sizes-left e = sizes-fits Row n (room P) (both-fine (alphabet a) (sizes Row n (room P)) e .1)
 
+  pub given-fits : given a P n ≡ Fine → Fits n (room P)
+  unfolding given kept
+  given-fits e = sizes-fits Row n (room P) (both-fine (sizes Row n (room P)) rest (both-fine (alphabet a) (kept Row a P n) e .1) .0)
+
   pub given-goes-on : (r : Check) → sizesCheck a n (room P) ≡ r → given a P n ≡ r then rest
   unfolding given kept
   given-goes-on r e = sym (then-assoc (alphabet a) (sizes Row n (room P)) rest) ∙ ap (λ (c : Check). c then rest) e
 
 -- nothing is refused of sizes that fit
-pub sizes-fine : (n m : ℕ) → Fits n m → sizes Row n m ≡ Fine
+sizes-fine : (n m : ℕ) → Fits n m → sizes Row n m ≡ Fine
 unfolding sizes sized
 sizes-fine n m f = simp (le-ltb n 1 (omega (arith, f .some)), le-ltb rowMost n (f .most), le-ltb m n (f .room))
 

@@ -1,17 +1,16 @@
--- A call does not look past the row: with copies of its first n numbers, and of what stands beside it, it answers as on the whole.
+-- A check does not look past the row: by copies of its first n numbers, and of what stands beside it, it finds what it finds in the whole.
 -- Assumes nothing.
 use Prim.Native.Nat.{ℕ, zero, suc, _+_, _≤_}
-use mathlib.Core.Path.{_≡_, refl, sym, ap, ap₂, subst, _∙_}
+use mathlib.Core.Path.{_≡_, refl, sym, ap, ap₂, _∙_}
 use mathlib.Core.List.{List, [], _∷_}
 use native.Mathlib.Omega.{arith}
 use lib.Dec.{eqb}
 use lib.ListN.{length, take, length-take}
-use Rattle.rows.specs.Programme.{Alphabet, Programme, alphabetOf, programme, room}
+use Rattle.rows.specs.Programme.{Programme}
 use Rattle.rows.specs.Row.{pick}
 use Rattle.rows.specs.Parse.{table}
 use Rattle.rows.specs.Classes.{classes}
-use Rattle.rows.specs.Buffers.{written, after}
-use Rattle.rows.specs.Refusals.{_then_, alphabet, sizes, symbols, differs, fresh, classed, kept, given, pattern, output}
+use Rattle.rows.specs.Refusals.{_then_, symbols, differs, fresh, classed}
 use Rattle.rows.specs.declared.Kept.the-variants.{Stale, Misclassed}
 use Rattle.rows.specs.declared.Refusal.{Refusal}
 use Rattle.rows.specs.declared.Refusal.the-variants.{Row}
@@ -19,14 +18,6 @@ use Rattle.rows.specs.declared.Check.{Check}
 use Rattle.rows.specs.declared.Check.the-variants.{Refused}
 use Rattle.rows.proofs.Entry.{length-table}
 use Rattle.rows.proofs.Classes.{class-of-row}
-use Rattle.rows.proofs.Passing.{Fits}
-use Rattle.checks.specs.Checks.{searchCheck, findCheck}
-use Rattle.sparrowhem.specs.Search.{found, Finds}
-use Rattle.sparrowhem.specs.declared.search.Found.{Found}
-use Rattle.wire.specs.Wire.{numbers}
-use Rattle.c_lent.specs.declared.Answer.{Answer}
-use Rattle.c_lent.specs.Calls.{FoundBytes}
-use Rattle.c_copied.proofs.Checks.{sizes-fine}
 
 -- what stands behind the row's length is not looked at
 differs-cut : (wrong : ℕ → Refusal) (at k : ℕ) (l t : List ℕ) → length l ≤ k → differs wrong at l (take k t) ≡ differs wrong at l t
@@ -54,37 +45,3 @@ lists-cut A P x u c n row-is table-is classes-are =
     ∙ ap₂ (λ (e k : Check). symbols Row A w then e then k)
     (copy-differs (λ k. Row (Stale k)) (table A w) (P .table) u n (omega (arith, length-table A w)) table-is)
     (copy-differs (λ k. Row (Misclassed k)) (classes A w) (P .classes) c n (omega (arith, class-of-row A w .0)) classes-are)
-
--- Find, with copies of table and classes that go as far as the row.
-module _ (a : Alphabet) (P : Programme) (q t c : List ℕ) (whole : Fits (length (P .row)) (room P)) (cut : Fits (length (P .row)) (room (programme (P .row) t c)))
-    (table-is : take (length (P .row)) t ≡ take (length (P .row)) (P .table)) (classes-are : take (length (P .row)) c ≡ take (length (P .row)) (P .classes)) where
-  abbrev copy : Programme
-  copy = programme (P .row) t c
-
-  search-cut : searchCheck a copy q ≡ searchCheck a P q
-  unfolding searchCheck given kept
-  search-cut =
-      let n : ℕ = length (P .row) in
-      ap₂ (λ (s k : Check). (alphabet a then s then k) then pattern (a .arities) q)
-      (sizes-fine n (room copy) cut ∙ sym (sizes-fine n (room P) whole))
-      (lists-cut (a .arities) P (P .row) t c n refl table-is classes-are)
-
-  finds-cut : (y : List ℕ) (r : Found) (y′ : List ℕ) → Finds a copy q y r y′ → Finds a P q y r y′
-  unfolding findCheck
-  finds-cut y r y′ f =
-      let n = length (f .positions) in
-      record {
-        positions = f .positions;
-        listed = λ e. f .listed (search-cut ∙ e);
-        answer = f .answer ∙ ap (λ (c : Check). found (c then output n (length y)) n) search-cut;
-        output = f .output ∙ ap (λ (c : Check). after (c then output n (length y)) (written y 0 (f .positions)) y) search-cut;
-      }
-
-  pub found-cut : (out : List ℕ) (r : Answer) (out′ : List ℕ) → FoundBytes a copy q out r out′ → FoundBytes a P q out r out′
-  found-cut out r out′ f = record {
-    outcome = f .outcome;
-    left = f .left;
-    call = finds-cut (numbers out) (f .outcome) (f .left) (f .call);
-    answer = f .answer;
-    bytes = f .bytes;
-  }

@@ -2,3 +2,4 @@ pub mod Checks
 pub mod Cut
 pub mod Found
 pub mod Editing
+pub mod Reading

@@ -2,21 +2,18 @@
 ghost use mathlib.Core.Path.{_≡_};
 ghost use Prim.Native.Nat.{_≤_, min};
 ghost use lib.ListN.{length};
-ghost use Rattle.rows.specs.Limits.{alphabetMost, patternMost};
-ghost use Rattle.rows.specs.Programme.{Alphabet, alphabetOf, programme, room as places};
+ghost use Rattle.rows.specs.Limits.{alphabetMost, patternMost, rowMost};
+ghost use Rattle.rows.specs.Programme.{Alphabet, alphabetOf, programme};
 ghost use Rattle.rows.specs.Refusals.{given};
 ghost use Rattle.rows.specs.declared.Check.the-variants.{Fine};
 ghost use Rattle.patterns.specs.Searchable.{Searchable};
 ghost use Rattle.checks.specs.Checks.{searchCheck};
 ghost use Rattle.wire.specs.Wire.{numbers};
-ghost use Rattle.c_copied.specs.Copies.{Copied};
 ghost use Rattle.c_lent.specs.Lent.{lent, numbersOf};
 ghost use Rattle.c_lent.specs.Calls.{FoundBytes};
-ghost use Rattle.c_lent.specs.Reading.{sizesCheck};
 use c_lent::Answer;
 use rows::Check;
 use rows::Fault;
-use rows::Keeping;
 use rows::Refusal;
 
 // Room for the longest pattern.
@@ -76,169 +73,36 @@ fn find_pattern(
     }
 }
 
-// Row, table and classes, within the sizes, are checked.
-fn find_copied(
-    arities: &[u16],
-    row: &[u16],
-    table: &[u16],
-    classes: &[u16],
-    pattern: &[u8],
-    q: &mut [u16],
-    room: &mut [u16],
-    out: &mut [u8],
-) -> Answer
-    requires { ⌜ (sizesCheck (alphabetOf (now arities)) (length (now row)) (places (programme (now row) (now table) (now classes))) ≡ Fine) × (length (now row) ≤ length (now room)) × (patternMost ≤ length (now q)) ⌝ }
-    ensures { λ r. ⌜ FoundBytes (alphabetOf (now (arities .entry))) (programme (now (row .entry)) (now (table .entry)) (now (classes .entry))) (numbers (now (pattern .entry))) (now (out .entry)) r (now (out .exit)) ⌝ }
-{
-    match checks::check_beside(arities, row, table, classes, room) {
-        Keeping::Unsound(k) => c_lent::refusal_of(Refusal::Row(k)),
-        Keeping::Sound => find_pattern(arities, row, table, classes, pattern, q, room, out),
-    }
-}
-
-// The copies `w`, `t` and `c` begin with the row, its table and its classes. `q` and `room` are for the pattern and what the call
-// keeps beside them.
+// The alphabet, the row, its table and its classes are read to `a`, `w`, `t` and `c` and checked. `q` and `room` are for the pattern and
+// what the call keeps beside them.
 fn find_in(
-    arities: &[u16],
+    arities: &[u8],
     row: &[u8],
     table: &[u8],
     classes: &[u8],
     pattern: &[u8],
     out: &mut [u8],
-    w: &[u16],
-    t: &[u16],
-    c: &[u16],
+    a: &mut [u16],
+    w: &mut [u16],
+    t: &mut [u16],
+    c: &mut [u16],
     q: &mut [u16],
     room: &mut [u16],
 ) -> Answer
-    requires { ⌜ sizesCheck (alphabetOf (now arities)) (length (numbers (now row))) (places (numbersOf (lent (now row) (now table) (now classes)))) ≡ Fine ⌝ }
-    requires { ⌜ Copied (numbersOf (lent (now row) (now table) (now classes))) (length (numbers (now row))) (now w) (now t) (now c) × (length (numbers (now row)) ≤ length (now room)) × (patternMost ≤ length (now q)) ⌝ }
-    ensures { λ r. ⌜ FoundBytes (alphabetOf (now (arities .entry))) (numbersOf (lent (now (row .entry)) (now (table .entry)) (now (classes .entry)))) (numbers (now (pattern .entry))) (now (out .entry)) r (now (out .exit)) ⌝ }
+    requires { ⌜ min alphabetMost (length (numbers (now arities))) ≤ length (now a) ⌝ }
+    requires { ⌜ (min rowMost (length (numbers (now row))) ≤ length (now w)) × (min rowMost (length (numbers (now row))) ≤ length (now t)) × (min rowMost (length (numbers (now row))) ≤ length (now c)) × (min rowMost (length (numbers (now row))) ≤ length (now room)) × (patternMost ≤ length (now q)) ⌝ }
+    ensures { λ r. ⌜ FoundBytes (alphabetOf (numbers (now (arities .entry)))) (numbersOf (lent (now (row .entry)) (now (table .entry)) (now (classes .entry)))) (numbers (now (pattern .entry))) (now (out .entry)) r (now (out .exit)) ⌝ }
 {
+    let k = wire::count(arities);
     let n = wire::count(row);
-    find_copied(arities, &w[..n], &t[..n], &c[..n], pattern, q, room, out)
+    match crate::copies::read_given(arities, row, table, classes, a, w, t, c, room) {
+        Check::Refused(r) => c_lent::refusal_of(r),
+        Check::Fine => find_pattern(&a[..k], &w[..n], &t[..n], &c[..n], pattern, q, room, out),
+    }
 }
 
-// Rooms for a row of fair length, or of any.
+// Rooms for a row of fair length, or of any. A row over the limit is refused in the largest.
 fn find_long(
-    arities: &[u16],
-    row: &[u8],
-    table: &[u8],
-    classes: &[u8],
-    pattern: &[u8],
-    out: &mut [u8],
-) -> Answer
-    requires { ⌜ sizesCheck (alphabetOf (now arities)) (length (numbers (now row))) (places (numbersOf (lent (now row) (now table) (now classes)))) ≡ Fine ⌝ }
-    ensures { λ r. ⌜ FoundBytes (alphabetOf (now (arities .entry))) (numbersOf (lent (now (row .entry)) (now (table .entry)) (now (classes .entry)))) (numbers (now (pattern .entry))) (now (out .entry)) r (now (out .exit)) ⌝ }
-{
-    if wire::count(row) <= tables::FAIR {
-        let mut w = tables::fair_room();
-        let mut t = tables::fair_room();
-        let mut c = tables::fair_room();
-        let mut q = pattern_room();
-        let mut room = tables::fair_room();
-        crate::copies::copy_kept(
-            row,
-            table,
-            classes,
-            wire::count(row),
-            &mut w,
-            &mut t,
-            &mut c,
-        );
-        return find_in(
-            arities,
-            row,
-            table,
-            classes,
-            pattern,
-            out,
-            &w,
-            &t,
-            &c,
-            &mut q,
-            &mut room,
-        );
-    }
-    let mut w = tables::long_room();
-    let mut t = tables::long_room();
-    let mut c = tables::long_room();
-    let mut q = pattern_room();
-    let mut room = tables::long_room();
-    crate::copies::copy_kept(
-        row,
-        table,
-        classes,
-        wire::count(row),
-        &mut w,
-        &mut t,
-        &mut c,
-    );
-    find_in(
-        arities,
-        row,
-        table,
-        classes,
-        pattern,
-        out,
-        &w,
-        &t,
-        &c,
-        &mut q,
-        &mut room,
-    )
-}
-
-// Rooms for a short row. A pattern over its limit is refused in any room: with that, the function that makes larger rooms is called
-// from two places, and the compiler keeps its rooms out of the stack of a call on a short row.
-fn find_sized(
-    arities: &[u16],
-    row: &[u8],
-    table: &[u8],
-    classes: &[u8],
-    pattern: &[u8],
-    out: &mut [u8],
-) -> Answer
-    requires { ⌜ sizesCheck (alphabetOf (now arities)) (length (numbers (now row))) (places (numbersOf (lent (now row) (now table) (now classes)))) ≡ Fine ⌝ }
-    ensures { λ r. ⌜ FoundBytes (alphabetOf (now (arities .entry))) (numbersOf (lent (now (row .entry)) (now (table .entry)) (now (classes .entry)))) (numbers (now (pattern .entry))) (now (out .entry)) r (now (out .exit)) ⌝ }
-{
-    if rows::PATTERN_MOST < wire::count(pattern) {
-        return find_long(arities, row, table, classes, pattern, out);
-    }
-    if tables::SHORT < wire::count(row) {
-        return find_long(arities, row, table, classes, pattern, out);
-    }
-    let mut w = tables::short_room();
-    let mut t = tables::short_room();
-    let mut c = tables::short_room();
-    let mut q = pattern_room();
-    let mut room = tables::short_room();
-    crate::copies::copy_kept(
-        row,
-        table,
-        classes,
-        wire::count(row),
-        &mut w,
-        &mut t,
-        &mut c,
-    );
-    find_in(
-        arities,
-        row,
-        table,
-        classes,
-        pattern,
-        out,
-        &w,
-        &t,
-        &c,
-        &mut q,
-        &mut room,
-    )
-}
-
-// The alphabet is read to `a`, a room that is lent for it.
-fn find_under(
     arities: &[u8],
     row: &[u8],
     table: &[u8],
@@ -250,13 +114,87 @@ fn find_under(
     requires { ⌜ min alphabetMost (length (numbers (now arities))) ≤ length (now a) ⌝ }
     ensures { λ r. ⌜ FoundBytes (alphabetOf (numbers (now (arities .entry)))) (numbersOf (lent (now (row .entry)) (now (table .entry)) (now (classes .entry)))) (numbers (now (pattern .entry))) (now (out .entry)) r (now (out .exit)) ⌝ }
 {
-    let k = wire::count(arities);
-    let n = wire::count(row);
-    let places = rows::shortest(n, wire::count(table), wire::count(classes));
-    match c_lent::read_sizes(arities, a, n, places) {
-        Check::Refused(r) => c_lent::refusal_of(r),
-        Check::Fine => find_sized(&a[..k], row, table, classes, pattern, out),
+    if wire::count(row) <= tables::FAIR {
+        let mut w = tables::fair_room();
+        let mut t = tables::fair_room();
+        let mut c = tables::fair_room();
+        let mut q = pattern_room();
+        let mut room = tables::fair_room();
+        return find_in(
+            arities,
+            row,
+            table,
+            classes,
+            pattern,
+            out,
+            a,
+            &mut w,
+            &mut t,
+            &mut c,
+            &mut q,
+            &mut room,
+        );
     }
+    let mut w = tables::long_room();
+    let mut t = tables::long_room();
+    let mut c = tables::long_room();
+    let mut q = pattern_room();
+    let mut room = tables::long_room();
+    find_in(
+        arities,
+        row,
+        table,
+        classes,
+        pattern,
+        out,
+        a,
+        &mut w,
+        &mut t,
+        &mut c,
+        &mut q,
+        &mut room,
+    )
+}
+
+// Rooms for a short row. A pattern over its limit is refused in any room: with that, the function that makes larger rooms is called
+// from two places, and the compiler keeps its rooms out of the stack of a call on a short row.
+fn find_sized(
+    arities: &[u8],
+    row: &[u8],
+    table: &[u8],
+    classes: &[u8],
+    pattern: &[u8],
+    out: &mut [u8],
+    a: &mut [u16],
+) -> Answer
+    requires { ⌜ min alphabetMost (length (numbers (now arities))) ≤ length (now a) ⌝ }
+    ensures { λ r. ⌜ FoundBytes (alphabetOf (numbers (now (arities .entry)))) (numbersOf (lent (now (row .entry)) (now (table .entry)) (now (classes .entry)))) (numbers (now (pattern .entry))) (now (out .entry)) r (now (out .exit)) ⌝ }
+{
+    if rows::PATTERN_MOST < wire::count(pattern) {
+        return find_long(arities, row, table, classes, pattern, out, a);
+    }
+    if tables::SHORT < wire::count(row) {
+        return find_long(arities, row, table, classes, pattern, out, a);
+    }
+    let mut w = tables::short_room();
+    let mut t = tables::short_room();
+    let mut c = tables::short_room();
+    let mut q = pattern_room();
+    let mut room = tables::short_room();
+    find_in(
+        arities,
+        row,
+        table,
+        classes,
+        pattern,
+        out,
+        a,
+        &mut w,
+        &mut t,
+        &mut c,
+        &mut q,
+        &mut room,
+    )
 }
 
 // Find: the bytes of the matches' positions at the front of `out`, later bytes stay; or the first refusal, which writes nothing.
@@ -273,8 +211,8 @@ pub fn find(
 {
     if wire::count(arities) <= c_lent::SMALL {
         let mut a = c_lent::small_room();
-        return find_under(arities, row, table, classes, pattern, out, &mut a);
+        return find_sized(arities, row, table, classes, pattern, out, &mut a);
     }
     let mut a = c_lent::alphabet_room();
-    find_under(arities, row, table, classes, pattern, out, &mut a)
+    find_sized(arities, row, table, classes, pattern, out, &mut a)
 }

@@ -12,7 +12,7 @@ use Rattle.rows.specs.declared.Kept.the-variants.{Misread, Short, Stale, Miscla
 use Rattle.rows.specs.declared.Text.{Text}
 use Rattle.rows.specs.declared.Text.the-variants.{Line, Bytes}
 use Rattle.rows.specs.declared.Refusal.{Refusal}
-use Rattle.rows.specs.declared.Refusal.the-variants.{Arities, Row, OnRecord, Pattern, Replacement, Position, TooLong, OutputShort, Input}
+use Rattle.rows.specs.declared.Refusal.the-variants.{Arities, Row, OnRecord, Pattern, Replacement, Position, TooLong, OutputShort, Input, SheetSize, SheetSum}
 
 -- the numbers of faults and refusals are from 1 to 102
 abbrev pub Few : ℕ → Type 0
@@ -51,3 +51,5 @@ number-few (Position p) = omega arith
 number-few (TooLong n) = omega arith
 number-few (OutputShort n) = omega arith
 number-few (Input f) = text-few f
+number-few (SheetSize n) = omega arith
+number-few (SheetSum m) = omega arith

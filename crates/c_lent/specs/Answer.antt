@@ -7,6 +7,8 @@ use Rattle.rows.specs.declared.Check.{Check}
 use Rattle.rows.specs.declared.Check.the-variants.{Fine, Refused}
 use Rattle.sparrowhem.specs.declared.search.Found.{Found}
 use Rattle.sparrowhem.specs.declared.search.Found.the-variants.{Matches, Refused as Unfound}
+use Rattle.sparrowhem.specs.declared.search.SheetFound.{SheetFound}
+use Rattle.sparrowhem.specs.declared.search.SheetFound.the-variants.{Matches as SheetMatches, Refused as SheetRefused}
 use Rattle.sparrowhem.specs.declared.edit.Replaced.{Replaced}
 use Rattle.sparrowhem.specs.declared.edit.Replaced.the-variants.{Done, Refused as Unreplaced}
 use Rattle.c_lent.specs.declared.Answer.{Answer}
@@ -28,6 +30,11 @@ buildAnswer (Refused r) n = refused r
 abbrev pub findAnswer : Found → Answer
 findAnswer (Matches n) = granted n (pos 0)
 findAnswer (Unfound r) = refused r
+
+-- sheet: the count is the number of all positions
+abbrev pub sheetAnswer : SheetFound → Answer
+sheetAnswer (SheetMatches n m) = granted m (pos 0)
+sheetAnswer (SheetRefused r) = refused r
 
 -- replace: the count is the new length, beside the change
 abbrev pub replaceAnswer : Replaced → Answer

@@ -2,22 +2,24 @@
 // one of the public calls, and what it answers and leaves in its buffers is printed.
 mod calling;
 mod replacing;
+mod sheet;
 
 use libc::STDIN_FILENO;
 use script::text;
 use script::title;
 
-// The call that a case's word names, by its first letter.
-fn call(word: u8, case: &[u16], buffer: &mut [u16]) {
-    match word {
-        b'b' => calling::build(case, buffer),
-        b's' => calling::subtree(case),
-        b'f' => calling::find(case, buffer),
-        b'v' => calling::variables(case, buffer),
-        b'r' => replacing::replace(case),
-        b'n' => calling::newer(case),
-        b'p' => calling::plain(case),
-        b'e' => calling::each(case),
+// The call that a case's word names, by its third letter: no two words have the same one.
+fn call(letter: u8, case: &[u16], buffer: &mut [u16]) {
+    match letter {
+        b'i' => calling::build(case, buffer),
+        b'b' => calling::subtree(case),
+        b'n' => calling::find(case, buffer),
+        b'e' => sheet::sheet(case, buffer),
+        b'r' => calling::variables(case, buffer),
+        b'p' => replacing::replace(case),
+        b'w' => calling::newer(case),
+        b'a' => calling::plain(case),
+        b'c' => calling::each(case),
         _ => {
             text(b"no such call\n");
         }
@@ -25,17 +27,17 @@ fn call(word: u8, case: &[u16], buffer: &mut [u16]) {
 }
 
 // A case, with a buffer for the call that wants one: nothing is written in it yet.
-fn run(word: u8, case: &[u16]) {
+fn run(letter: u8, case: &[u16]) {
     let mut buffer = script::unset_places();
     let n = script::places(case);
-    call(word, case, &mut buffer[..n]);
+    call(letter, case, &mut buffer[..n]);
 }
 
-// The word stands behind two spaces.
+// The word stands behind two spaces, so that byte 4 is its third letter.
 fn read(line: &[u8]) {
     let mut numbers = script::room();
     let n = script::read(line, &mut numbers);
-    run(script::byte_at(line, 2), &numbers[..n]);
+    run(script::byte_at(line, 4), &numbers[..n]);
 }
 
 // A line that begins with a space is a case, one that begins with # is for the reader alone, and any other is a title.

@@ -1,13 +1,13 @@
 -- What each public call refuses, in order: `then` takes the first of two checks that refuses. The numbers are those of
 -- docs/SCOPE.md.
-use Prim.Native.Nat.{ℕ}
+use Prim.Native.Nat.{ℕ, _*_}
 use mathlib.Core.List.{List}
 use lib.ListN.{length}
-use Rattle.rows.specs.Limits.{rowMost, spanPlaces}
+use Rattle.rows.specs.Limits.{rowMost, spanPlaces, resultPlaces}
 use Rattle.rows.specs.Programme.{Alphabet, Programme, room, front}
 use Rattle.rows.specs.Tree.{size}
 use Rattle.rows.specs.Row.{reading}
-use Rattle.rows.specs.Refusals.{_then_, asKept, alphabet, sizes, symbols, kept, given, pattern, replacement, position, grown, output}
+use Rattle.rows.specs.Refusals.{_then_, asKept, alphabet, sizes, symbols, kept, given, pattern, sheet, replacement, position, grown, output}
 use Rattle.rows.specs.declared.Leaves.the-variants.{Symbols}
 use Rattle.rows.specs.declared.Refusal.the-variants.{Row, OnRecord}
 use Rattle.rows.specs.declared.Check.{Check}
@@ -28,6 +28,15 @@ findCheck a P q n m = searchCheck a P q then output n m
 -- VARIABLES. Those, 17, then 19 where the output of m places has no room for begin and end of each variable.
 unfoldable pub variablesCheck : Alphabet → Programme → List ℕ → ℕ → ℕ → Check
 variablesCheck a P q p m = searchCheck a P q then position (length (P .row)) p then output spanPlaces m
+
+-- A SHEET OF PATTERNS qs, of the lengths ls, over a row with what stands beside it. Refusals 1 to 10, 62, 63 and 64, then 19 where the
+-- results have no room in k places.
+unfoldable pub resultsCheck : Alphabet → Programme → List ℕ → List ℕ → ℕ → Check
+resultsCheck a P qs ls k = given a P (length (P .row)) then sheet ls (length qs) then output (resultPlaces * length ls) k
+
+-- SHEET. Those, then 19 where the n positions of all its patterns together have no room in m places.
+unfoldable pub sheetCheck : Alphabet → Programme → List ℕ → List ℕ → ℕ → ℕ → ℕ → Check
+sheetCheck a P qs ls k n m = resultsCheck a P qs ls k then output n m
 
 -- REPLACE, in the row of the first n places of its buffer. Refusals 1 to 10, 62, 24 to 29, 17 and 18.
 unfoldable pub replaceCheck : Alphabet → Programme → ℕ → List ℕ → ℕ → Check

@@ -4,6 +4,7 @@ mod given;
 mod matcher;
 mod parts;
 mod search;
+mod sheet;
 mod table;
 
 pub use edit::check_replace;
@@ -15,4 +16,6 @@ pub use parts::check_newer;
 pub use parts::check_subtree;
 pub use search::check_search;
 pub use search::check_variables;
+pub use sheet::check_results;
+pub use sheet::check_sheet;
 pub use table::check_build;

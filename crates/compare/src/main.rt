@@ -1,7 +1,8 @@
-// The plain matcher against find, with the table and the classes that build leaves: every list of one to four numbers below 6,
-// and every row of five to seven; every position. What find refuses, the plain matcher has to refuse alike. The class of every
-// position of every row is compared too, with the first position of an equal subtree. The file `stdin` has the alphabet, of five
-// symbols, and the patterns, some of which are faulty: lists with a bar between each two.
+// The plain matcher against find, and against a sheet of all patterns, with the table and the classes that build leaves: every
+// list of one to four numbers below 6, and every row of five to seven; every position. What find refuses, the plain matcher has to
+// refuse alike, and so a row that the sheet refuses. The class of every position of every row is compared too, with the first
+// position of an equal subtree. The file `stdin` has lists with a bar between each two: the alphabet, of five symbols, the sheet's
+// patterns end to end, their lengths, and each pattern by itself. Some patterns are faulty.
 ghost use mathlib.Core.Path.{_≡_};
 ghost use Prim.Native.Nat.{_≤_};
 ghost use lib.ListN.{length};
@@ -15,6 +16,10 @@ use sparrowhem::Check;
 use sparrowhem::Fits;
 use sparrowhem::Found;
 use sparrowhem::Refusal;
+use sparrowhem::SheetFound;
+
+// How many patterns there are.
+const PATTERNS: usize = 14;
 
 // How many positions were tried and how many of them match, how many calls were refused alike, how many classes were compared,
 // and how often the two differ.
@@ -143,16 +148,62 @@ fn compared(arities: &[u16], list: &[u16], pattern: &[u16], tally: Tally) -> Tal
     judged(answer, arities, list, pattern, &out, tally)
 }
 
-// One list with each pattern. An empty pattern is none.
+// One list with each pattern.
 fn patterns(case: &[u16], list: &[u16], tally: Tally) -> Tally {
     let mut sum = tally;
-    for i in 1..20usize {
-        let pattern = list_at(case, i);
-        if 0 < pattern.len() {
-            sum = compared(list_at(case, 0), list, pattern, sum);
-        }
+    for i in 0..PATTERNS {
+        sum = compared(list_at(case, 0), list, list_at(case, 3 + i), sum);
     }
     sum
+}
+
+// Each pattern that the sheet does not refuse, with its part of the positions.
+fn parts(case: &[u16], row: &[u16], positions: &[u16], results: &[u16], tally: Tally) -> Tally {
+    let mut sum = tally;
+    let mut at = 0;
+    for i in 0..PATTERNS {
+        let n = entry(results, 3 * i + 2) as usize;
+        let begin = rows::shorter(at, positions.len());
+        if entry(results, 3 * i) == 0 {
+            sum = answered(
+                list_at(case, 0),
+                row,
+                list_at(case, 3 + i),
+                &positions[begin..],
+                n,
+                sum,
+            );
+        }
+        at = std::num::wrapping_add_usize(at, n);
+    }
+    sum
+}
+
+// One list with the sheet of all patterns.
+fn sheet(case: &[u16], list: &[u16], tally: Tally) -> Tally {
+    let mut table = [0u16; 7];
+    let mut classes = [0u16; 7];
+    let arities = list_at(case, 0);
+    sparrowhem::build(arities, list, &mut table, &mut classes);
+    let mut positions = [0u16; 7 * PATTERNS];
+    let mut results = [0u16; 3 * PATTERNS];
+    let answer = sparrowhem::sheet(
+        arities,
+        list,
+        &table,
+        &classes,
+        list_at(case, 1),
+        list_at(case, 2),
+        &mut positions,
+        &mut results,
+    );
+    match answer {
+        SheetFound::Refused(r) => tally.refusal(alike(
+            sparrowhem::plain_match(arities, list, list_at(case, 3), 0),
+            r,
+        )),
+        SheetFound::Matches(_, _) => parts(case, list, &positions, &results, tally),
+    }
 }
 
 fn is_fine(answer: Check) -> bool {
@@ -224,7 +275,8 @@ fn worth(arities: &[u16], list: &[u16]) -> bool {
 
 fn tried(case: &[u16], list: &[u16], tally: Tally) -> Tally {
     if worth(list_at(case, 0), list) {
-        return patterns(case, list, classed(list_at(case, 0), list, tally));
+        let sum = classed(list_at(case, 0), list, tally);
+        return sheet(case, list, patterns(case, list, sum));
     }
     tally
 }
@@ -270,7 +322,6 @@ fn all_lists(case: &[u16]) -> Tally {
     sum
 }
 
-// The first list of the case is the alphabet, and the others are patterns.
 fn compare(case: &[u16]) {
     let all = all_lists(case);
     text(b"positions");
@@ -292,7 +343,7 @@ fn read(line: &[u8]) {
 
 fn main() {
     title(
-        b"plain against find, classes against equal subtrees: lists of one to four numbers, rows of five to seven, 14 patterns, every position",
+        b"plain against find and a sheet, classes against equal subtrees: lists of one to four numbers, rows of five to seven, 14 patterns",
     );
     let mut line = io::buffer();
     let n = io::read_full(STDIN_FILENO, &mut line);

@@ -8,28 +8,35 @@ use lib.ListN.{length, drop}
 use Rattle.rows.specs.Programme.{Alphabet, Programme}
 use Rattle.rows.specs.Parse.{table}
 use Rattle.rows.specs.Classes.{classes}
-use Rattle.rows.specs.Buffers.{written}
+use Rattle.rows.specs.Buffers.{written, after}
+use Rattle.rows.specs.Refusals.{output}
 use Rattle.rows.specs.declared.Check.{Check}
 use Rattle.rows.specs.declared.Check.the-variants.{Fine, Refused}
 use Rattle.rows.proofs.Buffers.{length-written}
 use Rattle.rows.proofs.Entry.{length-table}
+use Rattle.rows.proofs.Passing.{both-fine, output-fine}
 use Rattle.rows.proofs.Classes.{class-of-row}
+use Rattle.checks.specs.Checks.{resultsCheck, sheetCheck}
 use Rattle.checks.proofs.Building.{build-fillable, build-classes}
 use Rattle.sparrowhem.specs.Build.{Built}
 use Rattle.sparrowhem.specs.Search.{Finds}
+use Rattle.sparrowhem.specs.Sheet.{SheetAnswers}
 use Rattle.sparrowhem.specs.Edit.{Replacement}
 use Rattle.sparrowhem.specs.declared.search.Found.{Found}
 use Rattle.sparrowhem.specs.declared.search.Found.the-variants.{Matches, Refused as Unfound}
+use Rattle.sparrowhem.specs.declared.search.SheetFound.{SheetFound}
 use Rattle.sparrowhem.specs.declared.edit.Replaced.{Replaced}
 use Rattle.sparrowhem.specs.declared.edit.Replaced.the-variants.{Done, Refused as Unreplaced}
+use Rattle.sheets.proofs.Sheets.{results-length}
 use Rattle.sparrowhem.proofs.Searching.{finds-matches}
+use Rattle.sparrowhem.proofs.Sheeting.{every, threes, computed, sheet-answerable, sheet-computed}
 use Rattle.promises.proofs.Calls.{build-fine, build-kept, find-kept}
 use Rattle.promises.proofs.Holding.{went, stayed, same-lengths}
 use Rattle.wire.specs.Wire.{numbers, bytesOf}
 use Rattle.wire.proofs.Promises.{odd-byte-stays}
 use Rattle.c_lent.specs.Lent.{Lent, numbersOf}
 use Rattle.c_lent.proofs.Lists.{Covers, beside-reads, rewritten-reads}
-use Rattle.host.specs.Promises.{OddByteStays, Build-crosses, Find-crosses, Replace-crosses}
+use Rattle.host.specs.Promises.{OddByteStays, Build-crosses, Find-crosses, Sheet-crosses, Replace-crosses}
 
 -- the odd last byte, where as many numbers are written as there are
 odd : (l v l′ : List ℕ) → length v ≡ length (numbers l) → l′ ≡ written l 0 (bytesOf v) → OddByteStays l l′
@@ -94,6 +101,41 @@ find-crosses a P q out r out′ c =
       call = subst (Finds a P q y (c .outcome)) (sym reads) (c .call);
       answer = c .answer;
       odd = odd out (c .left) out′ long (c .bytes);
+    }
+
+-- a sheet leaves outputs of the old lengths
+sheet-lengths : (a : Alphabet) (P : Programme) (qs ls y z : List ℕ) (r : SheetFound) (y′ z′ : List ℕ) → SheetAnswers a P qs ls y z r y′ z′
+    → (length y′ ≡ length y) × (length z′ ≡ length z)
+unfolding sheetCheck
+sheet-lengths a P qs ls y z r y′ z′ s =
+    let e = sheet-computed a P qs ls y z r y′ z′ s in
+    go (computed a P qs ls y z) refl (e .1) (e .2)
+  where
+    go : (c : Check) → computed a P qs ls y z ≡ c → y′ ≡ after c (written y 0 (every a P qs ls y z)) y → z′ ≡ after c (written z 0 (threes a P qs ls y z)) z
+        → (length y′ ≡ length y) × (length z′ ≡ length z)
+    go (Refused x) d p t = (ap length p, ap length t)
+    go Fine d p t =
+        let both = both-fine (resultsCheck a P qs ls (length z)) (output (length (every a P qs ls y z)) (length y)) d in
+        let room = sheet-answerable a P qs ls y z (both .0) .room in (
+          ap length p ∙ length-written y 0 (every a P qs ls y z) (omega (arith, output-fine (length (every a P qs ls y z)) (length y) (both .1))),
+          ap length t ∙ length-written z 0 (threes a P qs ls y z) (omega (arith, room, results-length a (P .row) qs ls (length ls))),
+        )
+
+pub sheet-crosses : Sheet-crosses
+sheet-crosses a P qs ls out res r out′ res′ c =
+    let y : List ℕ = numbers out in
+    let z : List ℕ = numbers res in
+    let long = sheet-lengths a P qs ls y z (c .outcome) (c .left) (c .results-left) (c .call) in
+    let reads : numbers out′ ≡ c .left = ap numbers (c .bytes) ∙ odd-byte-stays out (c .left) (long .0) .0 in
+    let results : numbers res′ ≡ c .results-left = ap numbers (c .result-bytes) ∙ odd-byte-stays res (c .results-left) (long .1) .0 in
+    record {
+      outcome = c .outcome;
+      call =
+          subst (λ (l : List ℕ). SheetAnswers a P qs ls y z (c .outcome) l (numbers res′)) (sym reads)
+          (subst (λ (l : List ℕ). SheetAnswers a P qs ls y z (c .outcome) (c .left) l) (sym results) (c .call));
+      answer = c .answer;
+      odd = odd out (c .left) out′ (long .0) (c .bytes);
+      results-odd = odd res (c .results-left) res′ (long .1) (c .result-bytes);
     }
 
 -- replace leaves lists of the old lengths

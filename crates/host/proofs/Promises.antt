@@ -25,15 +25,18 @@ use Rattle.rows.specs.declared.Refusal.the-variants.{Pattern, OutputShort}
 use Rattle.rows.specs.declared.Check.{Check}
 use Rattle.rows.specs.declared.Check.the-variants.{Fine, Refused}
 use Rattle.rows.proofs.Passing.{clash}
-use Rattle.refusal_numbers.specs.Numbers.{number, patternNumber}
+use Rattle.refusal_numbers.specs.Numbers.{number, place, patternNumber}
 use Rattle.patterns.specs.Answers.{Listed}
 use Rattle.checks.specs.Checks.{searchCheck, findCheck}
 use Rattle.sparrowhem.specs.Said.{checkSaid, foundSaid, replacedSaid}
 use Rattle.sparrowhem.specs.Build.{Built}
 use Rattle.sparrowhem.specs.Search.{found, Finds}
+use Rattle.sparrowhem.specs.Sheet.{SheetAnswers}
 use Rattle.sparrowhem.specs.Edit.{Replacement}
 use Rattle.sparrowhem.specs.declared.search.Found.{Found}
 use Rattle.sparrowhem.specs.declared.search.Found.the-variants.{Matches, Refused as Unfound}
+use Rattle.sparrowhem.specs.declared.search.SheetFound.{SheetFound}
+use Rattle.sparrowhem.specs.declared.search.SheetFound.the-variants.{Matches as SheetMatches, Refused as SheetRefused}
 use Rattle.sparrowhem.specs.declared.edit.Replaced.{Replaced}
 use Rattle.sparrowhem.specs.declared.edit.Replaced.the-variants.{Done, Refused as Unreplaced}
 use Rattle.promises.specs.Demands.{Follows}
@@ -42,15 +45,16 @@ use Rattle.promises.proofs.Calls.{build-kept, find-kept}
 use Rattle.promises.proofs.Holding.{built-holds, stayed}
 use Rattle.promises.proofs.Demand1.{pair, build-one, find-one, replace-one}
 use Rattle.promises.proofs.Demand2.{find-lists}
+use Rattle.promises.proofs.Sheeting.{sheet-one, sheet-refused}
 use Rattle.promises.proofs.Demand3.{after-run, putting-back}
 use Rattle.wire.specs.Wire.{numbers, bytesOf}
 use Rattle.wire.proofs.Numbers.{write-read}
-use Rattle.c_lent.specs.Answer.{buildAnswer, findAnswer, replaceAnswer}
+use Rattle.c_lent.specs.Answer.{buildAnswer, findAnswer, sheetAnswer, replaceAnswer}
 use Rattle.c_lent.specs.Lent.{Lent, numbersOf, beside, rewritten}
 use Rattle.c_lent.specs.declared.Answer.{Answer}
 use Rattle.c_lent.proofs.Lists.{beside-same, rewritten-same}
 use Rattle.host.specs.Runs.{heldNumbers}
-use Rattle.host.specs.Promises.{Zero-tells, Build-for-C-one, Find-for-C-one, Replace-for-C-one, Build-for-C-refused, Find-for-C-refused, Replace-for-C-refused, FoundNumbers, Build-crosses, Find-crosses, Replace-crosses, Run-for-C, Putting-back-for-C, Find-after-build-for-C}
+use Rattle.host.specs.Promises.{Zero-tells, Build-for-C-one, Find-for-C-one, Sheet-for-C-one, Replace-for-C-one, Build-for-C-refused, Find-for-C-refused, Sheet-for-C-refused, Replace-for-C-refused, FoundNumbers, Build-crosses, Find-crosses, Sheet-crosses, Replace-crosses, Run-for-C, Putting-back-for-C, Find-after-build-for-C}
 use Rattle.host.proofs.Crossing as crossing
 use Rattle.host.proofs.Running.{refusal-tells, build-answered, find-answered, replace-answered, run-crosses}
 
@@ -80,6 +84,16 @@ find-for-c-one a P q out =
       only = λ x c. pair x (say (c .outcome, c .left)) (c .answer, c .bytes) ∙ ap say (one .only (c .outcome, c .left) (c .call));
     }
 
+pub sheet-for-c-one : Sheet-for-C-one
+sheet-for-c-one a P qs ls out res =
+    let one = sheet-one a P qs ls (numbers out) (numbers res) in
+    let say : SheetFound × List ℕ × List ℕ → Answer × List ℕ × List ℕ = λ x. (sheetAnswer (x .0), written out 0 (bytesOf (x .1)), written res 0 (bytesOf (x .2))) in
+    record {
+      some = say (one .some);
+      holds = record { outcome = one .some .0; left = one .some .1; results-left = one .some .2; call = one .holds; answer = refl; bytes = refl; result-bytes = refl };
+      only = λ x c. (λ i. (c .answer i, c .bytes i, c .result-bytes i)) ∙ ap say (one .only (c .outcome, c .left, c .results-left) (c .call));
+    }
+
 pub replace-for-c-one : Replace-for-C-one
 replace-for-c-one a b n v p =
     let one = replace-one a (numbersOf b) n v p in
@@ -107,6 +121,17 @@ find-for-c-refused a P q out r out′ small c not = go (c .outcome) (c .call) (c
     go (Unfound x) d e =
         c .bytes ∙ ap (λ (l : List ℕ). written out 0 (bytesOf l)) (find-kept a P q (numbers out) x (c .left) d) ∙ write-read out small
 
+pub sheet-for-c-refused : Sheet-for-C-refused
+sheet-for-c-refused a P qs ls out res r out′ res′ small small-results c not = go (c .outcome) (c .call) (c .answer)
+  where
+    go : (o : SheetFound) → SheetAnswers a P qs ls (numbers out) (numbers res) o (c .left) (c .results-left) → r ≡ sheetAnswer o → (out′ ≡ out) × (res′ ≡ res)
+    go (SheetMatches n m) d e = absurd (not (ap (λ (x : Answer). x .refusal) e))
+    go (SheetRefused x) d e =
+        let kept = sheet-refused a P qs ls (numbers out) (numbers res) (SheetRefused x) (c .left) (c .results-left) d (number x) (place x) refl in (
+          c .bytes ∙ ap (λ (l : List ℕ). written out 0 (bytesOf l)) (kept .0) ∙ write-read out small,
+          c .result-bytes ∙ ap (λ (l : List ℕ). written res 0 (bytesOf l)) (kept .1) ∙ write-read res small-results,
+        )
+
 pub replace-for-c-refused : Replace-for-C-refused
 replace-for-c-refused a b n v p r b′ small c not = go (c .outcome) (c .call) (c .answer)
   where
@@ -121,6 +146,9 @@ build-crosses = crossing.build-crosses
 
 pub find-crosses : Find-crosses
 find-crosses = crossing.find-crosses
+
+pub sheet-crosses : Sheet-crosses
+sheet-crosses = crossing.sheet-crosses
 
 pub replace-crosses : Replace-crosses
 replace-crosses = crossing.replace-crosses

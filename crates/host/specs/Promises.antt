@@ -1,8 +1,9 @@
 -- The promises on the calls for C. Each is proved in proofs/Promises, under the same name in small letters.
 --
--- a is the alphabet, b the bytes that are lent for a row and what is kept beside it, q the pattern's numbers, r and s are answers; in a
--- replacement n is the row length, v the replacement's numbers and p the position. ′ marks what the bytes are afterwards. The contract
--- of each exported function (crates/host/src/lib.rt) says of which lent bytes these are made up.
+-- a is the alphabet, b the bytes that are lent for a row and what is kept beside it, q the pattern's numbers, qs and ls those of a sheet's
+-- patterns and of their lengths, out and res the bytes of outputs, r and s are answers; in a replacement n is the row length, v the
+-- replacement's numbers and p the position. ′ marks what the bytes are afterwards. The contract of each exported function
+-- (crates/host/src/lib.rt) says of which lent bytes these are made up.
 use Prim.Native.Nat.{ℕ, _*_, _-_, _<_}
 use mathlib.Core.Path.{_≡_}
 use mathlib.Core.List.{List}
@@ -17,14 +18,16 @@ use Rattle.rows.specs.declared.Check.{Check}
 use Rattle.patterns.specs.Answers.{Listed}
 use Rattle.sparrowhem.specs.Build.{Built}
 use Rattle.sparrowhem.specs.Search.{Finds}
+use Rattle.sparrowhem.specs.Sheet.{SheetAnswers}
 use Rattle.sparrowhem.specs.Edit.{Replacement}
 use Rattle.sparrowhem.specs.declared.search.Found.{Found}
+use Rattle.sparrowhem.specs.declared.search.SheetFound.{SheetFound}
 use Rattle.sparrowhem.specs.declared.edit.Replaced.{Replaced}
 use Rattle.promises.specs.Demands.{Follows}
 use Rattle.wire.specs.Wire.{numbers, Bytes}
-use Rattle.c_lent.specs.Answer.{granted, refused, buildAnswer, findAnswer, replaceAnswer}
+use Rattle.c_lent.specs.Answer.{granted, refused, buildAnswer, findAnswer, sheetAnswer, replaceAnswer}
 use Rattle.c_lent.specs.Lent.{Lent, AreBytes, numbersOf}
-use Rattle.c_lent.specs.Calls.{BuiltBytes, FoundBytes, ReplacedBytes}
+use Rattle.c_lent.specs.Calls.{BuiltBytes, FoundBytes, SheetBytes, ReplacedBytes}
 use Rattle.c_lent.specs.declared.Answer.{Answer}
 use Rattle.host.specs.Runs.{StateForC, CallForC, RunForC, heldNumbers, editsForC}
 
@@ -40,6 +43,10 @@ Build-for-C-one = (a : Alphabet) (b : Lent) → One {X = Answer × Lent} (λ x. 
 abbrev pub Find-for-C-one : Type 0
 Find-for-C-one = (a : Alphabet) (P : Programme) (q out : List ℕ) → One {X = Answer × List ℕ} (λ x. FoundBytes a P q out (x .0) (x .1))
 
+abbrev pub Sheet-for-C-one : Type 0
+Sheet-for-C-one = (a : Alphabet) (P : Programme) (qs ls out res : List ℕ)
+    → One {X = Answer × List ℕ × List ℕ} (λ x. SheetBytes a P qs ls out res (x .0) (x .1) (x .2))
+
 abbrev pub Replace-for-C-one : Type 0
 Replace-for-C-one = (a : Alphabet) (b : Lent) (n : ℕ) (v : List ℕ) (p : ℕ) → One {X = Answer × Lent} (λ x. ReplacedBytes a b n v p (x .0) (x .1))
 
@@ -50,6 +57,10 @@ Build-for-C-refused = (a : Alphabet) (b : Lent) (r : Answer) (b′ : Lent) → A
 abbrev pub Find-for-C-refused : Type 0
 Find-for-C-refused = (a : Alphabet) (P : Programme) (q out : List ℕ) (r : Answer) (out′ : List ℕ) → Bytes out → FoundBytes a P q out r out′
     → (r .refusal ≡ 0 → ⊥) → out′ ≡ out
+
+abbrev pub Sheet-for-C-refused : Type 0
+Sheet-for-C-refused = (a : Alphabet) (P : Programme) (qs ls out res : List ℕ) (r : Answer) (out′ res′ : List ℕ) → Bytes out → Bytes res
+    → SheetBytes a P qs ls out res r out′ res′ → (r .refusal ≡ 0 → ⊥) → (out′ ≡ out) × (res′ ≡ res)
 
 abbrev pub Replace-for-C-refused : Type 0
 Replace-for-C-refused = (a : Alphabet) (b : Lent) (n : ℕ) (v : List ℕ) (p : ℕ) (r : Answer) (b′ : Lent) → AreBytes b → ReplacedBytes a b n v p r b′
@@ -85,6 +96,18 @@ pub record FoundNumbers (a : Alphabet) (P : Programme) (q out : List ℕ) (r : A
 
 abbrev pub Find-crosses : Type 0
 Find-crosses = (a : Alphabet) (P : Programme) (q out : List ℕ) (r : Answer) (out′ : List ℕ) → FoundBytes a P q out r out′ → FoundNumbers a P q out r out′
+
+-- sheet: both outputs
+pub record SheetNumbers (a : Alphabet) (P : Programme) (qs ls out res : List ℕ) (r : Answer) (out′ res′ : List ℕ) : Type 0 where
+  pub outcome : SheetFound
+  pub call : SheetAnswers a P qs ls (numbers out) (numbers res) outcome (numbers out′) (numbers res′)
+  pub answer : r ≡ sheetAnswer outcome
+  pub odd : OddByteStays out out′
+  pub results-odd : OddByteStays res res′
+
+abbrev pub Sheet-crosses : Type 0
+Sheet-crosses = (a : Alphabet) (P : Programme) (qs ls out res : List ℕ) (r : Answer) (out′ res′ : List ℕ)
+    → SheetBytes a P qs ls out res r out′ res′ → SheetNumbers a P qs ls out res r out′ res′
 
 pub record ReplacedNumbers (a : Alphabet) (b : Lent) (n : ℕ) (v : List ℕ) (p : ℕ) (r : Answer) (b′ : Lent) : Type 0 where
   pub outcome : Replaced

@@ -1,9 +1,9 @@
-// Build, find and replace for C, as include/sparrowhem.h declares them. Nothing is asked of the caller but what that header
+// Build, find, sheet and replace for C, as include/sparrowhem.h declares them. Nothing is asked of the caller but what that header
 // says: a pointer leads to as many bytes as its count says, and no buffer that is written overlaps another.
 ghost use Rattle.rows.specs.Programme.{alphabetOf};
 ghost use Rattle.wire.specs.Wire.{numbers};
 ghost use Rattle.c_lent.specs.Lent.{lent, numbersOf};
-ghost use Rattle.c_lent.specs.Calls.{BuiltBytes, FoundBytes, ReplacedBytes};
+ghost use Rattle.c_lent.specs.Calls.{BuiltBytes, FoundBytes, SheetBytes, ReplacedBytes};
 use c_lent::Answer;
 
 #[no_mangle]
@@ -30,6 +30,31 @@ pub extern "C" fn sparrowhem_find(
     ensures { λ r. ⌜ FoundBytes (alphabetOf (numbers (now (arities .entry)))) (numbersOf (lent (now (row .entry)) (now (table .entry)) (now (classes .entry)))) (numbers (now (pattern .entry))) (now (out .entry)) r (now (out .exit)) ⌝ }
 {
     c_copied::find(arities, row, table, classes, pattern, out)
+}
+
+#[no_mangle]
+pub extern "C" fn sparrowhem_sheet(
+    arities: &[u8],
+    row: &[u8],
+    table: &[u8],
+    classes: &[u8],
+    patterns: &[u8],
+    lengths: &[u8],
+    positions: &mut [u8],
+    results: &mut [u8],
+) -> Answer
+    ensures { λ r. ⌜ SheetBytes (alphabetOf (numbers (now (arities .entry)))) (numbersOf (lent (now (row .entry)) (now (table .entry)) (now (classes .entry)))) (numbers (now (patterns .entry))) (numbers (now (lengths .entry))) (now (positions .entry)) (now (results .entry)) r (now (positions .exit)) (now (results .exit)) ⌝ }
+{
+    c_sheets::sheet(
+        arities,
+        row,
+        table,
+        classes,
+        patterns,
+        lengths,
+        positions,
+        results,
+    )
 }
 
 #[no_mangle]

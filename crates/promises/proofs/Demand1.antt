@@ -249,7 +249,7 @@ plain-one a w q p =
 -- ---- the first refusal in the order
 
 -- an answer that is what a check makes of it says what the check refuses
-through-answer : {X : Type 0} (said : X → Said) (r s : X) (k x : ℕ) (R : Type 0) → r ≡ s → (said s ≡ refused k x) ↔ R → (said r ≡ refused k x) ↔ R
+pub through-answer : {X : Type 0} (said : X → Said) (r s : X) (k x : ℕ) (R : Type 0) → r ≡ s → (said s ≡ refused k x) ↔ R → (said r ≡ refused k x) ↔ R
 through-answer said r s k x R e f = (λ h. f .0 (ap said (sym e) ∙ h), λ h. ap said e ∙ f .1 h)
 
 pub build-order : Build-order
@@ -326,7 +326,7 @@ pub sizes-fine : (whose : Kept → Refusal) (n m : ℕ) → Fits n m → sizes w
 unfolding sizes sized
 sizes-fine whose n m f = simp (le-ltb n 1 (f .some), le-ltb rowMost n (f .most), le-ltb m n (f .room))
 
-on-refuses : (c d : Check) (k x : ℕ) → Refuses c k x → Refuses (c then d) k x
+pub on-refuses : (c d : Check) (k x : ℕ) → Refuses c k x → Refuses (c then d) k x
 on-refuses c d k x h = table-of-refusals .order c d k x .1 (inl h)
 
 module _ (a : Alphabet) (P : Programme) (n : ℕ) where
@@ -366,7 +366,7 @@ module _ (a : Alphabet) (P : Programme) (n : ℕ) where
       (read-to (x .0), x .1)
 
   -- the chain of checks refuses it, whatever comes behind it
-  wrong-given : (k p : ℕ) → WrongBeside a P n k p → Refuses (given a P n) k p
+  pub wrong-given : (k p : ℕ) → WrongBeside a P n k p → Refuses (given a P n) k p
   unfolding given kept
   wrong-given k p (inl s) =
       let r = read-to (s .1 .earlier) in

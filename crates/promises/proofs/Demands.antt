@@ -7,6 +7,7 @@ use Rattle.promises.specs.Demands.{Demands}
 use Rattle.promises.proofs.Demand1.{build-one, find-one, variables-one, replace-one, subtree-one, subtree-place-one, newer-one, newer-place-one, plain-one, build-order, find-order, variables-order, replace-order, subtree-order, newer-order, plain-order, find-short, build-refused, find-refused, variables-refused, replace-refused, find-stale, variables-stale, replace-stale, subtree-stale, newer-stale, newer-refused}
 use Rattle.promises.proofs.Demand2.{rows-accepted, patterns-accepted, replacements-accepted, build-accepts, build-writes, find-lists, variables-exactly, plain-exactly, plain-finds, plain-refuses, subtree-part, subtree-empty, newer-part, newer-empty}
 use Rattle.promises.proofs.Demand3.{replace-writes, after-run, variables-stay, find-stays, plain-stays, putting-back, either-order}
+use Rattle.promises.proofs.Sheeting.{sheet-one, sheet-order, sheet-refused, sheet-stale, sheet-alone, sheet-settled}
 
 pub demands : Demands
 demands =
@@ -14,6 +15,7 @@ demands =
       build-one = build-one;
       find-one = find-one;
       variables-one = variables-one;
+      sheet-one = sheet-one;
       replace-one = replace-one;
       subtree-one = subtree-one;
       subtree-place-one = subtree-place-one;
@@ -24,6 +26,7 @@ demands =
       build-order = build-order;
       find-order = find-order;
       variables-order = variables-order;
+      sheet-order = sheet-order;
       replace-order = replace-order;
       subtree-order = subtree-order;
       newer-order = newer-order;
@@ -32,9 +35,11 @@ demands =
       build-refused = build-refused;
       find-refused = find-refused;
       variables-refused = variables-refused;
+      sheet-refused = sheet-refused;
       replace-refused = replace-refused;
       find-stale = find-stale;
       variables-stale = variables-stale;
+      sheet-stale = sheet-stale;
       replace-stale = replace-stale;
       subtree-stale = subtree-stale;
       newer-stale = newer-stale;
@@ -50,6 +55,8 @@ demands =
       build-accepts = build-accepts;
       build-writes = build-writes;
       find-lists = find-lists;
+      sheet-alone = sheet-alone;
+      sheet-settled = sheet-settled;
       variables-exactly = variables-exactly;
       plain-exactly = plain-exactly;
       plain-finds = plain-finds;

@@ -8,5 +8,6 @@ pub mod Edits
 pub mod Demand1
 pub mod Demand2
 pub mod Demand3
+pub mod Sheeting
 pub mod Demands
 pub mod Worked

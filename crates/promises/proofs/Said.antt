@@ -12,14 +12,17 @@ use Rattle.rows.specs.declared.Check.{Check}
 use Rattle.rows.specs.declared.Check.the-variants.{Fine, Refused}
 use Rattle.refusal_numbers.specs.Numbers.{number, place}
 use Rattle.refusal_numbers.specs.Table.{Refuses}
-use Rattle.sparrowhem.specs.Said.{Said.refused, Said.gives, refusal, checkSaid, foundSaid, boundSaid, replacedSaid, placedSaid, newestSaid, fitsSaid}
+use Rattle.sparrowhem.specs.Said.{Said.refused, Said.gives, refusal, checkSaid, foundSaid, boundSaid, sheetSaid, replacedSaid, placedSaid, newestSaid, fitsSaid}
 use Rattle.sparrowhem.specs.Search.{found, bound}
+use Rattle.sparrowhem.specs.Sheet.{sheetFound}
 use Rattle.sparrowhem.specs.Edit.{answered}
 use Rattle.sparrowhem.specs.Parts.{placed}
 use Rattle.sparrowhem.specs.declared.search.Found.{Found}
 use Rattle.sparrowhem.specs.declared.search.Found.the-variants.{Matches, Refused as FindRefused}
 use Rattle.sparrowhem.specs.declared.search.Bound.{Bound}
 use Rattle.sparrowhem.specs.declared.search.Bound.the-variants.{Matched, Unmatched, Refused as BindRefused}
+use Rattle.sparrowhem.specs.declared.search.SheetFound.{SheetFound}
+use Rattle.sparrowhem.specs.declared.search.SheetFound.the-variants.{Matches as SheetMatches, Refused as SheetRefused}
 use Rattle.sparrowhem.specs.declared.edit.Replaced.{Replaced}
 use Rattle.sparrowhem.specs.declared.edit.Replaced.the-variants.{Done, Refused as Unreplaced}
 use Rattle.sparrowhem.specs.declared.parts.Placed.{Placed}
@@ -50,6 +53,10 @@ bound-said Fine true k x = (λ e. absurd (apart k x _ (sym e)), λ h. absurd h)
 bound-said Fine false k x = (λ e. absurd (apart k x _ (sym e)), λ h. absurd h)
 bound-said (Refused r) b k x = refusal-said r k x
 
+pub sheet-said : (c : Check) (n m k x : ℕ) → (sheetSaid (sheetFound c n m) ≡ refused k x) ↔ Refuses c k x
+sheet-said Fine n m k x = (λ e. absurd (apart k x _ (sym e)), λ h. absurd h)
+sheet-said (Refused r) n m k x = refusal-said r k x
+
 pub answered-said : (c : Check) (m n k x : ℕ) → (replacedSaid (answered c m n) ≡ refused k x) ↔ Refuses c k x
 answered-said Fine m n k x = (λ e. absurd (apart k x _ (sym e)), λ h. absurd h)
 answered-said (Refused r) m n k x = refusal-said r k x
@@ -76,6 +83,10 @@ pub unmatched-said : (r : Bound) → boundSaid r ≡ gives (pos 0 ∷ []) → r 
 unmatched-said Matched e = let z : _≡_ {A = ℕ} 1 0 = cc in absurd (omega arith)
 unmatched-said Unmatched e = refl
 unmatched-said (BindRefused x) e = absurd (apart _ _ _ e)
+
+pub sheet-matches-said : (r : SheetFound) (n m : ℕ) → sheetSaid r ≡ gives (pos n ∷ pos m ∷ []) → r ≡ SheetMatches n m
+sheet-matches-said (SheetMatches i j) n m e = let z : i ≡ n = cc in let y : j ≡ m = cc in ap₂ SheetMatches z y
+sheet-matches-said (SheetRefused x) n m e = absurd (apart _ _ _ e)
 
 pub done-said : (r : Replaced) (m : ℕ) (change : ℤ) → replacedSaid r ≡ gives (pos m ∷ change ∷ []) → r ≡ Done m change
 done-said (Done n by) m change e = let z : n ≡ m = cc in let y : by ≡ change = cc in ap₂ Done z y

@@ -8,24 +8,28 @@ use Rattle.rows.specs.Programme.{Alphabet, Programme, programme}
 use Rattle.rows.specs.Parse.{first, rest, over, parse, table}
 use Rattle.rows.specs.Classes.{alike, placeOf, classesOf, classes}
 use Rattle.rows.specs.Row.{verdict, sized, reading}
+use Rattle.rows.specs.Sheet.{beginOf, patternAt, laid}
 use Rattle.rows.specs.Buffers.{written, One}
-use Rattle.rows.specs.Refusals.{alphabetSize, aritiesFit, someLeaf, alphabet, sizes, symbols, differs, fresh, classed, kept, given, pattern, replacement, position, grown, output}
+use Rattle.rows.specs.Refusals.{alphabetSize, aritiesFit, someLeaf, alphabet, sizes, symbols, differs, fresh, classed, kept, given, pattern, sheetSize, sheetSum, sheet, replacement, position, grown, output}
 use Rattle.rows.specs.declared.Fault.the-variants.{Stray, Early, Extra}
 use Rattle.rows.specs.declared.Kept.the-variants.{Misread, Stale, Misclassed}
 use Rattle.rows.specs.declared.Refusal.{Refusal}
-use Rattle.rows.specs.declared.Refusal.the-variants.{Row}
+use Rattle.rows.specs.declared.Refusal.the-variants.{Row, OutputShort}
 use Rattle.rows.specs.declared.Check.the-variants.{Fine, Refused}
 use Rattle.patterns.specs.Pattern.{leaf}
 use Rattle.patterns.specs.Answers.{faced, span, spansBelow}
 use Rattle.patterns.specs.Walk.{sameFront, meets, takes, steps, walk, below}
 use Rattle.buffers.specs.Renewed.{renewed}
 use Rattle.edits.specs.Put.{put}
-use Rattle.checks.specs.Checks.{buildCheck, searchCheck, findCheck, variablesCheck, replaceCheck}
+use Rattle.checks.specs.Checks.{buildCheck, searchCheck, findCheck, variablesCheck, resultsCheck, sheetCheck, replaceCheck}
+use Rattle.sheets.specs.Sheets.{alone, result}
 use Rattle.sparrowhem.specs.declared.search.Found.the-variants.{Matches, Refused as FindRefused}
 use Rattle.sparrowhem.specs.declared.search.Bound.the-variants.{Matched, Refused as BindRefused}
+use Rattle.sparrowhem.specs.declared.search.SheetFound.the-variants.{Matches as SheetMatches, Refused as SheetRefused}
 use Rattle.sparrowhem.specs.declared.edit.Replaced.the-variants.{Done, Refused as Unreplaced}
-use Rattle.promises.specs.Worked.{A, T, T-built, T-stale, T-misclassed, T-with-3-0-1, T-with-1, places, S, X0, spans-of-X0, ends-of-T, classes-of-T, Worked}
+use Rattle.promises.specs.Worked.{A, T, T-built, T-stale, T-misclassed, T-with-3-0-1, T-with-1, places, S, X0, spans-of-X0, ends-of-T, classes-of-T, four-patterns, four-lengths, Worked}
 use Rattle.promises.proofs.Demand1.{build-one, find-one, variables-one, replace-one}
+use Rattle.promises.proofs.Sheeting.{sheet-one}
 use lib.IntN.{pos, negsuc}
 
 -- the contract admits what its one outcome is
@@ -41,7 +45,7 @@ misclassed : Refusal
 misclassed = Row (Misclassed 6)
 
 pub worked : Worked
-unfolding build-one find-one variables-one replace-one stale misclassed table classes classesOf placeOf alike parse over first rest ends size verdict sized written alphabetSize aritiesFit someLeaf alphabet sizes symbols differs fresh classed kept buildCheck subtrees reading given pattern position leaf faced span spansBelow sameFront meets takes steps walk below searchCheck output findCheck variablesCheck prefix replacement renewed put grown replaceCheck
+unfolding build-one find-one variables-one sheet-one replace-one stale misclassed table classes classesOf placeOf alike parse over first rest ends size verdict sized written alphabetSize aritiesFit someLeaf alphabet sizes symbols differs fresh classed kept buildCheck subtrees reading given pattern position leaf faced span spansBelow sameFront meets takes steps walk below searchCheck output findCheck variablesCheck prefix replacement renewed put grown replaceCheck beginOf patternAt laid sheetSize sheetSum sheet resultsCheck sheetCheck alone result
 worked =
     record {
       the-table = (Fine, says (build-one A (programme T (places 9) (places 9))) (Fine, T-built) refl, refl);
@@ -64,4 +68,15 @@ worked =
       misclassed-find = (FindRefused misclassed, says (find-one A T-misclassed (3 ∷ X0 ∷ X0 ∷ []) (places 9)) (FindRefused misclassed, places 9) refl, refl);
       misclassed-variables = (BindRefused misclassed, says (variables-one A T-misclassed (3 ∷ X0 ∷ X0 ∷ []) 1 (places 32)) (BindRefused misclassed, places 32) refl, refl);
       misclassed-replace = (Unreplaced misclassed, says (replace-one A T-misclassed 9 (1 ∷ []) 1) (Unreplaced misclassed, T-misclassed) refl, refl);
+      four-at-once = (
+        SheetMatches 4 3,
+        says (sheet-one A T-built four-patterns four-lengths (places 9) (places 13))
+            (SheetMatches 4 3, 1 ∷ 6 ∷ 4 ∷ places 6, 0 ∷ 0 ∷ 2 ∷ 14 ∷ 2 ∷ 0 ∷ 11 ∷ 0 ∷ 0 ∷ 0 ∷ 0 ∷ 1 ∷ places 1) refl,
+        refl,
+      );
+      four-without-room = (
+        SheetRefused (OutputShort 12),
+        says (sheet-one A T-built four-patterns four-lengths (places 9) (places 11)) (SheetRefused (OutputShort 12), places 9, places 11) refl,
+        refl,
+      );
     }

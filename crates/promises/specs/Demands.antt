@@ -1,22 +1,24 @@
 -- The three demands on Sparrowhem (docs/SCOPE.md), each sentence as a theorem about the public calls, proved in proofs/Demand1, Demand2
--- or Demand3 under the same name in small letters. A contract, in crates/sparrowhem/specs, says which answer and which contents of the
--- lent lists afterwards a call may have; that the code ends and meets it on every input is the call's own proof there (`build-spec`,
--- `find-spec` and so on); this file says what the contracts come to.
+-- or Demand3, those on a sheet in proofs/Sheeting, under the same name in small letters. A contract, in crates/sparrowhem/specs, says
+-- which answer and which contents of the lent lists afterwards a call may have; that the code ends and meets it on every input is the
+-- call's own proof there (`build-spec`, `find-spec` and so on); this file says what the contracts come to.
 -- a is the alphabet, P a row with what is kept beside it, q the pattern, p the position, y the output, r the answer; in a replacement
--- n is the row length and v the replacement; O is the row on record with what is kept beside it. ′ marks what a list holds afterwards.
-use Prim.Native.Nat.{ℕ, _+_, _-_, _<_, _≤_, max}
+-- n is the row length and v the replacement; in a sheet qs are the patterns, laid end to end, ls their lengths, y the output for the
+-- positions and z that for the results; O is the row on record with what is kept beside it. ′ marks what a list holds afterwards.
+use Prim.Native.Nat.{ℕ, zero, suc, _+_, _-_, _*_, _<_, _≤_, max}
 use mathlib.Core.Path.{_≡_}
 use mathlib.Core.List.{List, [], _∷_, List·Memᴰ, map}
 use mathlib.Core.Logic.{_↔_, _⊎_}
 use lib.Dec.{ltb, eqb}
 use lib.ListN.{length, getD, take, drop}
 use lib.IntN.{ℤ, pos, _-ℤ_}
-use Rattle.rows.specs.Limits.{freedSymbol, freedEntry, freedClass, spanPlaces, variables}
+use Rattle.rows.specs.Limits.{freedSymbol, freedEntry, freedClass, spanPlaces, resultPlaces, variables}
 use Rattle.rows.specs.Programme.{Alphabet, Programme, room, front, cut}
 use Rattle.rows.specs.Tree.{Forest, IsRow, single, size, prefix, ends}
 use Rattle.rows.specs.Classes.{FirstEqual, classesOf}
 use Rattle.rows.specs.Row.{pick, symbol, allowed}
 use Rattle.rows.specs.Buffers.{One}
+use Rattle.rows.specs.Sheet.{patternAt}
 use Rattle.rows.specs.Promises.{One-tree, Tree-of-row, Entry, Class-of-row, Same-class, Equal-subtrees}
 use Rattle.rows.specs.Refusals.{_then_, alphabet, sizes, symbols, fresh, given, pattern, replacement}
 use Rattle.rows.specs.declared.Leaves.the-variants.{Blanks}
@@ -26,14 +28,16 @@ use Rattle.rows.specs.declared.Check.the-variants.{Fine}
 use Rattle.refusal_numbers.specs.Table.{Refuses, FirstStale, FirstMisclassed, Table}
 use Rattle.patterns.specs.Answers.{MatchesAt, Listed, facing, Has, Spanned}
 use Rattle.checks.specs.Checks.{buildCheck, searchCheck, findCheck, variablesCheck, replaceCheck, subtreeCheck, newerCheck, plainCheck}
-use Rattle.sparrowhem.specs.Said.{Said.refused, Said.gives, checkSaid, foundSaid, boundSaid, replacedSaid, placedSaid, newestSaid, fitsSaid}
+use Rattle.sparrowhem.specs.Said.{Said.refused, Said.gives, checkSaid, foundSaid, boundSaid, sheetSaid, replacedSaid, placedSaid, newestSaid, fitsSaid}
 use Rattle.sparrowhem.specs.Build.{Built}
 use Rattle.sparrowhem.specs.Search.{Finds, Binds}
+use Rattle.sparrowhem.specs.Sheet.{checkOf, SheetAnswers}
 use Rattle.sparrowhem.specs.Edit.{newTree, Replacement}
 use Rattle.sparrowhem.specs.Parts.{subtreePart, subtreeAnswer, SubtreeLies, NewestSays, NewerPart, NewerLies}
 use Rattle.sparrowhem.specs.Plain.{PlainSays}
 use Rattle.sparrowhem.specs.declared.search.Found.{Found}
 use Rattle.sparrowhem.specs.declared.search.Bound.{Bound}
+use Rattle.sparrowhem.specs.declared.search.SheetFound.{SheetFound}
 use Rattle.sparrowhem.specs.declared.edit.Replaced.{Replaced}
 use Rattle.sparrowhem.specs.declared.parts.Placed.{Placed}
 use Rattle.sparrowhem.specs.declared.parts.Newest.{Newest}
@@ -52,6 +56,10 @@ Find-one = (a : Alphabet) (P : Programme) (q y : List ℕ) → One {X = Found ×
 
 abbrev pub Variables-one : Type 0
 Variables-one = (a : Alphabet) (P : Programme) (q : List ℕ) (p : ℕ) (y : List ℕ) → One {X = Bound × List ℕ} (λ x. Binds a P q p y (x .0) (x .1))
+
+abbrev pub Sheet-one : Type 0
+Sheet-one = (a : Alphabet) (P : Programme) (qs ls y z : List ℕ)
+    → One {X = SheetFound × List ℕ × List ℕ} (λ x. SheetAnswers a P qs ls y z (x .0) (x .1) (x .2))
 
 abbrev pub Replace-one : Type 0
 Replace-one = (a : Alphabet) (P : Programme) (n : ℕ) (v : List ℕ) (p : ℕ)
@@ -90,6 +98,11 @@ abbrev pub Variables-order : Type 0
 Variables-order = (a : Alphabet) (P : Programme) (q : List ℕ) (p : ℕ) (y : List ℕ) (r : Bound) (y′ : List ℕ) → Binds a P q p y r y′
     → (k x : ℕ) → (boundSaid r ≡ refused k x) ↔ Refuses (variablesCheck a P q p (length y)) k x
 
+-- 19 is for the results, then for the positions of all patterns together
+abbrev pub Sheet-order : Type 0
+Sheet-order = (a : Alphabet) (P : Programme) (qs ls y z : List ℕ) (r : SheetFound) (y′ z′ : List ℕ) (s : SheetAnswers a P qs ls y z r y′ z′)
+    → (k x : ℕ) → (sheetSaid r ≡ refused k x) ↔ Refuses (checkOf a P qs ls y z (s .positions)) k x
+
 abbrev pub Replace-order : Type 0
 Replace-order = (a : Alphabet) (P : Programme) (n : ℕ) (v : List ℕ) (p : ℕ) (r : Replaced) (P′ : Programme) → Replacement a P n v p r P′
     → (k x : ℕ) → (replacedSaid r ≡ refused k x) ↔ Refuses (replaceCheck a P n v p) k x
@@ -124,6 +137,11 @@ abbrev pub Variables-refused : Type 0
 Variables-refused = (a : Alphabet) (P : Programme) (q : List ℕ) (p : ℕ) (y : List ℕ) (r : Bound) (y′ : List ℕ) → Binds a P q p y r y′
     → (k x : ℕ) → boundSaid r ≡ refused k x → y′ ≡ y
 
+-- neither the positions nor the results
+abbrev pub Sheet-refused : Type 0
+Sheet-refused = (a : Alphabet) (P : Programme) (qs ls y z : List ℕ) (r : SheetFound) (y′ z′ : List ℕ) → SheetAnswers a P qs ls y z r y′ z′
+    → (k x : ℕ) → sheetSaid r ≡ refused k x → (y′ ≡ y) × (z′ ≡ z)
+
 abbrev pub Replace-refused : Type 0
 Replace-refused = (a : Alphabet) (P : Programme) (n : ℕ) (v : List ℕ) (p : ℕ) (r : Replaced) (P′ : Programme) → Replacement a P n v p r P′
     → (k x : ℕ) → replacedSaid r ≡ refused k x → P′ ≡ P
@@ -151,6 +169,10 @@ Find-stale = (a : Alphabet) (P : Programme) (q y : List ℕ) (r : Found) (y′ :
 abbrev pub Variables-stale : Type 0
 Variables-stale = (a : Alphabet) (P : Programme) (q : List ℕ) (x : ℕ) (y : List ℕ) (r : Bound) (y′ : List ℕ) (k p : ℕ) → Binds a P q x y r y′
     → WrongBeside a P (length (P .row)) k p → boundSaid r ≡ refused k p
+
+abbrev pub Sheet-stale : Type 0
+Sheet-stale = (a : Alphabet) (P : Programme) (qs ls y z : List ℕ) (r : SheetFound) (y′ z′ : List ℕ) (k p : ℕ) → SheetAnswers a P qs ls y z r y′ z′
+    → WrongBeside a P (length (P .row)) k p → sheetSaid r ≡ refused k p
 
 abbrev pub Replace-stale : Type 0
 Replace-stale = (a : Alphabet) (P : Programme) (n : ℕ) (v : List ℕ) (x : ℕ) (r : Replaced) (P′ : Programme) (k p : ℕ) → Replacement a P n v x r P′
@@ -210,6 +232,49 @@ Build-writes = (a : Alphabet) (P : Programme) (r : Check) (P′ : Programme) →
 abbrev pub Find-lists : Type 0
 Find-lists = (a : Alphabet) (P : Programme) (q y : List ℕ) (n : ℕ) (r : Found) (y′ : List ℕ) → Finds a P q y r y′ → foundSaid r ≡ gives (pos n ∷ [])
     → Listed a (P .row) q (length (P .row)) (take n y′) × (length (take n y′) ≡ n) × (drop n y′ ≡ drop n y)
+
+-- A sheet answers each of its patterns as find would alone. The results z hold three numbers for each pattern, in the order of the
+-- patterns: of pattern i the refusal or 0, its place or 0, and the count of its positions.
+abbrev pub refusalAt : List ℕ → ℕ → ℕ
+refusalAt z i = getD z (resultPlaces * i) 0
+
+abbrev pub placeAt : List ℕ → ℕ → ℕ
+placeAt z i = getD z (resultPlaces * i + 1) 0
+
+abbrev pub countAt : List ℕ → ℕ → ℕ
+countAt z i = getD z (resultPlaces * i + 2) 0
+
+-- where the positions of pattern i begin: behind those of the patterns before it
+unfoldable pub positionsBegin : List ℕ → ℕ → ℕ
+positionsBegin z zero = 0
+positionsBegin z (suc i) = positionsBegin z i + countAt z i
+
+-- what the sheet leaves for pattern i is what find says of it, f, and leaves in its output, x′: its count, with no refusal; or its
+-- refusal and place, with no position. The stretch of its positions is find's list.
+pub record AsAlone (f : Found) (x′ y′ z′ : List ℕ) (i : ℕ) : Type 0 where
+  pub said :
+      ((foundSaid f ≡ gives (pos (countAt z′ i) ∷ [])) × (refusalAt z′ i ≡ 0) × (placeAt z′ i ≡ 0))
+      ⊎ ((foundSaid f ≡ refused (refusalAt z′ i) (placeAt z′ i)) × (countAt z′ i ≡ 0))
+  pub stretch : take (countAt z′ i) (drop (positionsBegin z′ i) y′) ≡ take (countAt z′ i) x′
+
+-- for any outcome of find with the same lists and an output x that has room (it does not refuse with 19)
+abbrev pub Sheet-alone : Type 0
+Sheet-alone = (a : Alphabet) (P : Programme) (qs ls y z : List ℕ) (r : SheetFound) (y′ z′ : List ℕ) → SheetAnswers a P qs ls y z r y′ z′
+    → (n m : ℕ) → sheetSaid r ≡ gives (pos n ∷ pos m ∷ []) → (i : ℕ) → i < n
+    → (x : List ℕ) (f : Found) (x′ : List ℕ) → Finds a P (patternAt qs ls i) x f x′ → ((k : ℕ) → foundSaid f ≡ refused 19 k → ⊥)
+    → AsAlone f x′ y′ z′ i
+
+-- The answer n, m of a sheet: n is the number of its patterns, and m that of all positions, so that their stretches fill the first m
+-- places with no gap; later places of both outputs stay.
+pub record Settled (ls y z : List ℕ) (n m : ℕ) (y′ z′ : List ℕ) : Type 0 where
+  pub patterns : n ≡ length ls
+  pub positions : m ≡ positionsBegin z′ n
+  pub later : drop m y′ ≡ drop m y
+  pub results-later : drop (resultPlaces * n) z′ ≡ drop (resultPlaces * n) z
+
+abbrev pub Sheet-settled : Type 0
+Sheet-settled = (a : Alphabet) (P : Programme) (qs ls y z : List ℕ) (r : SheetFound) (y′ z′ : List ℕ) → SheetAnswers a P qs ls y z r y′ z′
+    → (n m : ℕ) → sheetSaid r ≡ gives (pos n ∷ pos m ∷ []) → Settled ls y z n m y′ z′
 
 -- "the choice for each variable is returned, and no other would do". The variables call that does not refuse says whether the pattern
 -- matches. If it does, it leaves begin and end of each variable in the output (`Spanned` says what they are), those of the subtree
@@ -376,6 +441,7 @@ pub record Demands : Type 0 where
   pub build-one : Build-one
   pub find-one : Find-one
   pub variables-one : Variables-one
+  pub sheet-one : Sheet-one
   pub replace-one : Replace-one
   pub subtree-one : Subtree-one
   pub subtree-place-one : Subtree-place-one
@@ -386,6 +452,7 @@ pub record Demands : Type 0 where
   pub build-order : Build-order
   pub find-order : Find-order
   pub variables-order : Variables-order
+  pub sheet-order : Sheet-order
   pub replace-order : Replace-order
   pub subtree-order : Subtree-order
   pub newer-order : Newer-order
@@ -394,9 +461,11 @@ pub record Demands : Type 0 where
   pub build-refused : Build-refused
   pub find-refused : Find-refused
   pub variables-refused : Variables-refused
+  pub sheet-refused : Sheet-refused
   pub replace-refused : Replace-refused
   pub find-stale : Find-stale
   pub variables-stale : Variables-stale
+  pub sheet-stale : Sheet-stale
   pub replace-stale : Replace-stale
   pub subtree-stale : Subtree-stale
   pub newer-stale : Newer-stale
@@ -412,6 +481,8 @@ pub record Demands : Type 0 where
   pub build-accepts : Build-accepts
   pub build-writes : Build-writes
   pub find-lists : Find-lists
+  pub sheet-alone : Sheet-alone
+  pub sheet-settled : Sheet-settled
   pub variables-exactly : Variables-exactly
   pub plain-exactly : Plain-exactly
   pub plain-finds : Plain-finds

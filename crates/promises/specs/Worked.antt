@@ -8,12 +8,14 @@ use lib.ListN.{replicate}
 use lib.IntN.{ℤ, pos, negsuc}
 use Rattle.rows.specs.Programme.{Alphabet, Programme, alphabetOf, programme}
 use Rattle.rows.specs.declared.Check.{Check}
-use Rattle.sparrowhem.specs.Said.{Said, Said.refused, Said.gives, checkSaid, foundSaid, boundSaid, replacedSaid}
+use Rattle.sparrowhem.specs.Said.{Said, Said.refused, Said.gives, checkSaid, foundSaid, boundSaid, sheetSaid, replacedSaid}
 use Rattle.sparrowhem.specs.Build.{Built}
 use Rattle.sparrowhem.specs.Search.{Finds, Binds}
+use Rattle.sparrowhem.specs.Sheet.{SheetAnswers}
 use Rattle.sparrowhem.specs.Edit.{Replacement}
 use Rattle.sparrowhem.specs.declared.search.Found.{Found}
 use Rattle.sparrowhem.specs.declared.search.Bound.{Bound}
+use Rattle.sparrowhem.specs.declared.search.SheetFound.{SheetFound}
 use Rattle.sparrowhem.specs.declared.edit.Replaced.{Replaced}
 
 -- what a call says, and what the lists hold afterwards
@@ -25,6 +27,9 @@ FindSays a P q y said y′ = (r : Found) × Finds a P q y r y′ × (foundSaid r
 
 abbrev pub VariablesSay : Alphabet → Programme → List ℕ → ℕ → List ℕ → Said → List ℕ → Type 0
 VariablesSay a P q p y said y′ = (r : Bound) × Binds a P q p y r y′ × (boundSaid r ≡ said)
+
+abbrev pub SheetSays : Alphabet → Programme → (qs ls y z : List ℕ) → Said → (y′ z′ : List ℕ) → Type 0
+SheetSays a P qs ls y z said y′ z′ = (r : SheetFound) × SheetAnswers a P qs ls y z r y′ z′ × (sheetSaid r ≡ said)
 
 abbrev pub ReplaceSays : Alphabet → Programme → ℕ → List ℕ → ℕ → Said → Programme → Type 0
 ReplaceSays a P n v p said P′ = (r : Replaced) × Replacement a P n v p r P′ × (replacedSaid r ≡ said)
@@ -86,6 +91,13 @@ T-with-1 =
     programme (4 ∷ 1 ∷ 2 ∷ 1 ∷ 3 ∷ 0 ∷ 0 ∷ 65535 ∷ 65535 ∷ []) (7 ∷ 2 ∷ 4 ∷ 4 ∷ 7 ∷ 6 ∷ 7 ∷ 0 ∷ 0 ∷ [])
     (0 ∷ 1 ∷ 2 ∷ 1 ∷ 4 ∷ 5 ∷ 5 ∷ 0 ∷ 0 ∷ [])
 
+-- four patterns laid end to end, 3 X0 X0, then 3 0, then one of no numbers, then 2 S, and their lengths
+abbrev pub four-patterns : List ℕ
+four-patterns = 3 ∷ X0 ∷ X0 ∷ 3 ∷ 0 ∷ 2 ∷ S ∷ []
+
+abbrev pub four-lengths : List ℕ
+four-lengths = 3 ∷ 2 ∷ 0 ∷ 2 ∷ []
+
 -- a build of the row w that refuses so, and writes nothing
 abbrev pub Refused-row : List ℕ → ℕ → ℕ → Type 0
 Refused-row w k x = BuildSays A (programme w (places 9) (places 9)) (refused k x) (programme w (places 9) (places 9))
@@ -123,3 +135,9 @@ pub record Worked : Type 0 where
   pub misclassed-find : FindSays A T-misclassed (3 ∷ X0 ∷ X0 ∷ []) (places 9) (refused 62 6) (places 9)
   pub misclassed-variables : VariablesSay A T-misclassed (3 ∷ X0 ∷ X0 ∷ []) 1 (places 32) (refused 62 6) (places 32)
   pub misclassed-replace : ReplaceSays A T-misclassed 9 (1 ∷ []) 1 (refused 62 6) T-misclassed
+  -- 13: four patterns at once, with 2, none, none and 1 matches: the second ends before its tree does, the third is empty; and the same
+  -- with 11 places for the 12 numbers of the results
+  pub four-at-once :
+      SheetSays A T-built four-patterns four-lengths (places 9) (places 13) (gives (pos 4 ∷ pos 3 ∷ [])) (1 ∷ 6 ∷ 4 ∷ places 6)
+      (0 ∷ 0 ∷ 2 ∷ 14 ∷ 2 ∷ 0 ∷ 11 ∷ 0 ∷ 0 ∷ 0 ∷ 0 ∷ 1 ∷ places 1)
+  pub four-without-room : SheetSays A T-built four-patterns four-lengths (places 9) (places 11) (refused 19 12) (places 9) (places 11)

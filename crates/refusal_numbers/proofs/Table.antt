@@ -13,8 +13,9 @@ use lib.ListN.{length, getD}
 use Rattle.rows.specs.Limits.{rowMost}
 use Rattle.rows.specs.Parse.{table as entries}
 use Rattle.rows.specs.Classes.{classes}
+use Rattle.rows.specs.Sheet.{beginOf}
 use Rattle.rows.specs.Row.{pick, symbol, allowed, sized, verdict, orElse, reading}
-use Rattle.rows.specs.Refusals.{_then_, refuseIf, alphabetSize, aritiesFit, someLeaf, asKept, asPattern, asReplacement, sizes, symbols, differs, fresh, classed, pattern, replacement, position, grown, output}
+use Rattle.rows.specs.Refusals.{_then_, refuseIf, alphabetSize, aritiesFit, someLeaf, asKept, asPattern, asReplacement, sizes, symbols, differs, fresh, classed, pattern, sheetSize, sheetSum, replacement, position, grown, output}
 use Rattle.rows.specs.declared.Fault.{Fault}
 use Rattle.rows.specs.declared.Fault.the-variants.{Empty, Long, Stray, Early, Extra}
 use Rattle.rows.specs.declared.Verdict.{Verdict}
@@ -25,7 +26,7 @@ use Rattle.rows.specs.declared.Arities.the-variants.{Count, Over, NoLeaf}
 use Rattle.rows.specs.declared.Kept.{Kept}
 use Rattle.rows.specs.declared.Kept.the-variants.{Misread, Short, Stale, Misclassed}
 use Rattle.rows.specs.declared.Refusal.{Refusal}
-use Rattle.rows.specs.declared.Refusal.the-variants.{Arities, Row, OnRecord, Position, TooLong, OutputShort}
+use Rattle.rows.specs.declared.Refusal.the-variants.{Arities, Row, OnRecord, Position, TooLong, OutputShort, SheetSize, SheetSum}
 use Rattle.rows.specs.declared.Check.{Check}
 use Rattle.rows.specs.declared.Check.the-variants.{Fine, Refused}
 use Rattle.rows.proofs.Entry.{length-table}
@@ -52,18 +53,36 @@ test : (b : Bool) (x : Refusal) (P : Type 0) (k q : ℕ) → (b ≡ true → P) 
 test true x P k q to from = (λ h. (h .0, h .1, to refl), λ h. (h .0, h .1))
 test false x P k q to from = (λ h. absurd h, λ h. (let e = from (h .2) in let z : _≡_ {A = ℕ} 0 1 = cc in absurd (omega arith)))
 
-alphabet-size : (n k q : ℕ) → Refuses (alphabetSize n) k q ↔ ((k ≡ 1) × (q ≡ n) × ((n ≡ 0) ⊎ (1024 < n)))
-unfolding alphabetSize
-alphabet-size n k q = go (ltb n 1) (ltb 1024 n) refl refl
+-- there are none, or more than the most
+count-wrong : (x : Refusal) (most n k q : ℕ)
+    → Refuses (refuseIf (ltb n 1) x then refuseIf (ltb most n) x) k q ↔ ((k ≡ number x) × (q ≡ place x) × ((n ≡ 0) ⊎ (most < n)))
+count-wrong x most n k q = go (ltb n 1) (ltb most n) refl refl
   where
-    go : (a b : Bool) → ltb n 1 ≡ a → ltb 1024 n ≡ b
-        → Refuses (refuseIf a (Arities (Count n)) then refuseIf b (Arities (Count n))) k q ↔ ((k ≡ 1) × (q ≡ n) × ((n ≡ 0) ⊎ (1024 < n)))
+    go : (a b : Bool) → ltb n 1 ≡ a → ltb most n ≡ b
+        → Refuses (refuseIf a x then refuseIf b x) k q ↔ ((k ≡ number x) × (q ≡ place x) × ((n ≡ 0) ⊎ (most < n)))
     go true b e d = (λ h. (h .0, h .1, inl (omega (arith, ltb-true n 1 e))), λ h. (h .0, h .1))
-    go false true e d = (λ h. (h .0, h .1, inr (ltb-true 1024 n d)), λ h. (h .0, h .1))
+    go false true e d = (λ h. (h .0, h .1, inr (ltb-true most n d)), λ h. (h .0, h .1))
     go false false e d =
         let some = ltb-false n 1 e in
-        let few = ltb-false 1024 n d in
+        let few = ltb-false most n d in
         (λ h. absurd h, λ h. absurd (⊎-elim (λ x. omega arith) (λ x. omega arith) (h .2)))
+
+alphabet-size : (n k q : ℕ) → Refuses (alphabetSize n) k q ↔ ((k ≡ 1) × (q ≡ n) × ((n ≡ 0) ⊎ (1024 < n)))
+unfolding alphabetSize
+alphabet-size n k q = count-wrong (Arities (Count n)) 1024 n k q
+
+sheet-size : (n k q : ℕ) → Refuses (sheetSize n) k q ↔ ((k ≡ 63) × (q ≡ n) × ((n ≡ 0) ⊎ (64 < n)))
+unfolding sheetSize
+sheet-size n k q = count-wrong (SheetSize n) 64 n k q
+
+sheet-sum : (ls : List ℕ) (m k q : ℕ) → Refuses (sheetSum ls m) k q ↔ ((k ≡ 64) × (q ≡ m) × (beginOf ls (length ls) ≡ m → ⊥))
+unfolding sheetSum
+sheet-sum ls m k q = go (eqb (beginOf ls (length ls)) m) refl
+  where
+    go : (b : Bool) → eqb (beginOf ls (length ls)) m ≡ b
+        → Refuses (pick b Fine (Refused (SheetSum m))) k q ↔ ((k ≡ 64) × (q ≡ m) × (beginOf ls (length ls) ≡ m → ⊥))
+    go true e = (λ h. absurd h, λ h. absurd (h .2 (eqb-true (beginOf ls (length ls)) m e)))
+    go false e = (λ h. (h .0, h .1, eqb-false (beginOf ls (length ls)) m e), λ h. (h .0, h .1))
 
 position-past : (n p k q : ℕ) → Refuses (position n p) k q ↔ ((k ≡ 17) × (q ≡ p) × (n ≤ p))
 unfolding position
@@ -410,6 +429,8 @@ table =
       on-record-misclassed = misclassed-wrong OnRecord onRecordNumber (λ x. refl) (λ x. refl);
       other-first = other-first;
       pattern-wrong = pattern-wrong;
+      sheet-size = sheet-size;
+      sheet-sum = sheet-sum;
       replacement-wrong = replacement-wrong;
       position-past = position-past;
       too-long = too-long;

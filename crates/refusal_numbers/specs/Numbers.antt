@@ -9,7 +9,7 @@ use Rattle.rows.specs.declared.Kept.the-variants.{Misread, Short, Stale, Miscla
 use Rattle.rows.specs.declared.Text.{Text}
 use Rattle.rows.specs.declared.Text.the-variants.{Line, Bytes}
 use Rattle.rows.specs.declared.Refusal.{Refusal}
-use Rattle.rows.specs.declared.Refusal.the-variants.{Arities, Row, OnRecord, Pattern, Replacement, Position, TooLong, OutputShort, Input}
+use Rattle.rows.specs.declared.Refusal.the-variants.{Arities, Row, OnRecord, Pattern, Replacement, Position, TooLong, OutputShort, Input, SheetSize, SheetSum}
 
 -- a fault of an alphabet
 abbrev pub alphabetNumber : Alphabet → ℕ
@@ -83,6 +83,8 @@ number (Position p) = 17
 number (TooLong n) = 18
 number (OutputShort n) = 19
 number (Input f) = textNumber f
+number (SheetSize n) = 63
+number (SheetSum m) = 64
 
 -- its place
 abbrev pub place : Refusal → ℕ
@@ -95,3 +97,5 @@ place (Position p) = p
 place (TooLong n) = n
 place (OutputShort n) = n
 place (Input f) = textPlace f
+place (SheetSize n) = n
+place (SheetSum m) = m

@@ -12,7 +12,8 @@ use Rattle.rows.specs.Tree.{IsRow}
 use Rattle.rows.specs.Parse.{table}
 use Rattle.rows.specs.Classes.{classes}
 use Rattle.rows.specs.Row.{symbol, allowed, reading}
-use Rattle.rows.specs.Refusals.{_then_, alphabetSize, aritiesFit, someLeaf, asKept, sizes, symbols, fresh, classed, pattern, replacement, position, grown, output}
+use Rattle.rows.specs.Sheet.{beginOf}
+use Rattle.rows.specs.Refusals.{_then_, alphabetSize, aritiesFit, someLeaf, asKept, sizes, symbols, fresh, classed, pattern, sheetSize, sheetSum, replacement, position, grown, output}
 use Rattle.rows.specs.declared.Leaves.the-variants.{Symbols, Blanks}
 use Rattle.rows.specs.declared.Text.the-variants.{Line, Bytes}
 use Rattle.rows.specs.declared.Refusal.the-variants.{Row, OnRecord, Input}
@@ -99,6 +100,10 @@ pub record Table : Type 0 where
   pub other-first : (right l : List ℕ) (n k : ℕ) → k < n → (getD l k 0 ≡ getD right k 0 → ⊥) → (p : ℕ) × FirstOther right l n p
   -- 11, 12: pattern empty; over 256. 13, 14, 15: as 7, 8, 9 for the pattern, where S and variables are allowed.
   pub pattern-wrong : (A w : List ℕ) (k q : ℕ) → Refuses (pattern A w) k q ↔ WrongList 11 12 13 14 15 256 A (allowed Blanks A) w k q
+  -- 63: a sheet of no pattern or over 64. Their number.
+  pub sheet-size : (n k q : ℕ) → Refuses (sheetSize n) k q ↔ ((k ≡ 63) × (q ≡ n) × ((n ≡ 0) ⊎ (64 < n)))
+  -- 64: the lengths do not add up to the numbers lent as patterns. How many are lent.
+  pub sheet-sum : (ls : List ℕ) (m k q : ℕ) → Refuses (sheetSum ls m) k q ↔ ((k ≡ 64) × (q ≡ m) × (beginOf ls (length ls) ≡ m → ⊥))
   -- 24, 25, 27, 28, 29: as 4, 5, 7, 8, 9 for the replacement
   pub replacement-wrong : (A w : List ℕ) (k q : ℕ) → Refuses (replacement A w) k q ↔ WrongList 24 25 27 28 29 16384 A (symbol A) w k q
   -- 17: position not below the row length. The position.

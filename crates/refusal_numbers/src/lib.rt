@@ -136,6 +136,8 @@ pub fn number_of(refusal: Refusal) -> usize
         Refusal::TooLong(_) => 18,
         Refusal::OutputShort(_) => 19,
         Refusal::Input(f) => text_number(f),
+        Refusal::SheetSize(_) => 63,
+        Refusal::SheetSum(_) => 64,
     }
 }
 
@@ -153,5 +155,7 @@ pub fn place_of(refusal: Refusal) -> usize
         Refusal::TooLong(n) => n,
         Refusal::OutputShort(n) => n,
         Refusal::Input(f) => text_place(f),
+        Refusal::SheetSize(n) => n,
+        Refusal::SheetSum(m) => m,
     }
 }

@@ -13,3 +13,4 @@ pub mod Buffers
 pub mod Promises
 pub mod Passing
 pub mod Differ
+pub mod Sheet

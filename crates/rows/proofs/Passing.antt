@@ -2,21 +2,24 @@
 -- Assumes nothing.
 use Prim.Native.Nat.{ℕ, _<_, _≤_}
 use mathlib.Core.Path.{_≡_, refl}
+use mathlib.Core.List.{List}
 use mathlib.Core.Bool.{Bool, true, false}
 use native.Mathlib.Omega.{arith}
 use native.Mathlib.Decide.{decLt}
-use borrow.Author.Tests.{ltb-false, leb-false}
-use lib.Dec.{ltb, leb}
-use Rattle.rows.specs.Limits.{alphabetMost, rowMost}
-use Rattle.rows.specs.Row.{sized}
-use Rattle.rows.specs.Refusals.{_then_, refuseIf, alphabetSize, asKept, asPattern, asReplacement, sizes, position, output}
+use borrow.Author.Tests.{ltb-false, leb-false, eqb-true}
+use lib.Dec.{ltb, leb, eqb}
+use lib.ListN.{length}
+use Rattle.rows.specs.Limits.{alphabetMost, rowMost, sheetMost}
+use Rattle.rows.specs.Row.{pick, sized}
+use Rattle.rows.specs.Sheet.{beginOf}
+use Rattle.rows.specs.Refusals.{_then_, refuseIf, alphabetSize, asKept, asPattern, asReplacement, sizes, sheetSize, sheetSum, sheet, position, output}
 use Rattle.rows.specs.declared.Verdict.{Verdict}
 use Rattle.rows.specs.declared.Verdict.the-variants.{Whole, Faulty}
 use Rattle.rows.specs.declared.Arities.the-variants.{Count}
 use Rattle.rows.specs.declared.Kept.{Kept}
 use Rattle.rows.specs.declared.Kept.the-variants.{Short}
 use Rattle.rows.specs.declared.Refusal.{Refusal}
-use Rattle.rows.specs.declared.Refusal.the-variants.{Arities, Position, OutputShort}
+use Rattle.rows.specs.declared.Refusal.the-variants.{Arities, Position, OutputShort, SheetSize, SheetSum}
 use Rattle.rows.specs.declared.Check.{Check}
 use Rattle.rows.specs.declared.Check.the-variants.{Fine, Refused}
 use Rattle.rows.proofs.Scan.{sized-fits}
@@ -88,3 +91,25 @@ position-fine n p e = leb-false n p (refuse-fine (leb n p) (Position p) e)
 pub output-fine : (n m : ℕ) → output n m ≡ Fine → n ≤ m
 unfolding output
 output-fine n m e = ltb-false m n (refuse-fine (ltb m n) (OutputShort n) e)
+
+-- a sheet that is accepted has 1 to 64 patterns, and their lengths add up to the numbers that are lent
+pub record Laid (ls : List ℕ) (m : ℕ) : Type 0 where
+  pub some : 0 < length ls
+  pub most : length ls ≤ sheetMost
+  pub sum : beginOf ls (length ls) ≡ m
+
+pub sheet-laid : (ls : List ℕ) (m : ℕ) → sheet ls m ≡ Fine → Laid ls m
+unfolding sheet sheetSize sheetSum
+sheet-laid ls m e =
+    let n : ℕ = length ls in
+    let both = both-fine (sheetSize n) (sheetSum ls m) e in
+    let size = both-fine (refuseIf (ltb n 1) (SheetSize n)) (refuseIf (ltb sheetMost n) (SheetSize n)) (both .0) in
+    record {
+      some = ltb-false n 1 (refuse-fine (ltb n 1) (SheetSize n) (size .0));
+      most = ltb-false sheetMost n (refuse-fine (ltb sheetMost n) (SheetSize n) (size .1));
+      sum = go (eqb (beginOf ls n) m) refl (both .1);
+    }
+  where
+    go : (b : Bool) → eqb (beginOf ls (length ls)) m ≡ b → pick b Fine (Refused (SheetSum m)) ≡ Fine → beginOf ls (length ls) ≡ m
+    go true e f = eqb-true (beginOf ls (length ls)) m e
+    go false e f = absurd (clash _ _ f refl)

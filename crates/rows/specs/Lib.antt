@@ -5,6 +5,7 @@ pub mod Row
 pub mod Classes
 pub mod Reading
 pub mod Programme
+pub mod Sheet
 pub mod Refusals
 pub mod Buffers
 pub mod Notation

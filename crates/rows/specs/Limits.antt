@@ -16,6 +16,13 @@ rowMost = 16384
 abbrev pub patternMost : ℕ
 patternMost = 256
 
+-- the most patterns of a sheet, and how many numbers are answered for each
+abbrev pub sheetMost : ℕ
+sheetMost = 64
+
+abbrev pub resultPlaces : ℕ
+resultPlaces = 3
+
 -- the blank S; the variable X0, and how many variables there are
 abbrev pub blank : ℕ
 blank = 65535

@@ -7,7 +7,7 @@ use mathlib.Core.Bool.{Bool}
 use mathlib.Core.Logic.{_↔_}
 use lib.Dec.{T}
 use lib.ListN.{getD, length, take}
-use Rattle.rows.specs.Limits.{alphabetMost, arityMost, rowMost, patternMost, blank, firstVariable, variables, spanPlaces, freedSymbol, freedEntry, freedClass}
+use Rattle.rows.specs.Limits.{alphabetMost, arityMost, rowMost, patternMost, sheetMost, blank, firstVariable, variables, spanPlaces, resultPlaces, freedSymbol, freedEntry, freedClass}
 use Rattle.rows.specs.Tree.{IsRow, single, ends}
 use Rattle.rows.specs.Parse.{table}
 use Rattle.rows.specs.Row.{verdict}
@@ -50,10 +50,12 @@ pub record The-limits : Type 0 where
   pub of-arity : arityMost ≡ 15
   pub of-row : rowMost ≡ 16384
   pub of-pattern : patternMost ≡ 256
+  pub of-sheet : sheetMost ≡ 64
   pub S : blank ≡ 65535
   pub X0 : firstVariable ≡ 65280
   pub to-X15 : variables ≡ 16
   pub two-each : spanPlaces ≡ 32
+  pub three-each : resultPlaces ≡ 3
   pub freed-in-row : freedSymbol ≡ 65535
   pub freed-in-table : freedEntry ≡ 0
   pub freed-in-classes : freedClass ≡ 0

@@ -4,11 +4,12 @@ use mathlib.Core.List.{List, [], _∷_}
 use mathlib.Core.Bool.{Bool}
 use lib.Dec.{ltb, leb, eqb}
 use lib.ListN.{length}
-use Rattle.rows.specs.Limits.{alphabetMost, arityMost, rowMost, patternMost}
+use Rattle.rows.specs.Limits.{alphabetMost, arityMost, rowMost, patternMost, sheetMost}
 use Rattle.rows.specs.Row.{pick, verdict, allowed, sized, reading}
 use Rattle.rows.specs.Parse.{table}
 use Rattle.rows.specs.Classes.{classes}
 use Rattle.rows.specs.Programme.{Alphabet, Programme, room, front}
+use Rattle.rows.specs.Sheet.{beginOf}
 use Rattle.rows.specs.declared.Verdict.{Verdict}
 use Rattle.rows.specs.declared.Verdict.the-variants.{Whole, Faulty}
 use Rattle.rows.specs.declared.Leaves.the-variants.{Symbols, Blanks}
@@ -18,7 +19,7 @@ use Rattle.rows.specs.declared.Kept.the-variants.{Misread, Short, Stale,
 use Rattle.rows.specs.declared.Keeping.{Keeping}
 use Rattle.rows.specs.declared.Keeping.the-variants.{Sound, Unsound}
 use Rattle.rows.specs.declared.Refusal.{Refusal}
-use Rattle.rows.specs.declared.Refusal.the-variants.{Arities, Row, Pattern, Replacement, Position, TooLong, OutputShort}
+use Rattle.rows.specs.declared.Refusal.the-variants.{Arities, Row, Pattern, Replacement, Position, TooLong, OutputShort, SheetSize, SheetSum}
 use Rattle.rows.specs.declared.Check.{Check}
 use Rattle.rows.specs.declared.Check.the-variants.{Fine, Refused}
 
@@ -106,6 +107,18 @@ given a P n = alphabet a then kept Row a P n
 -- 11 to 15: the pattern
 unfoldable pub pattern : List ℕ → List ℕ → Check
 pattern A q = asPattern (reading A Blanks patternMost q)
+
+-- 63: a sheet of 1 to 64 patterns, by the number of their lengths
+unfoldable pub sheetSize : ℕ → Check
+sheetSize n = refuseIf (ltb n 1) (SheetSize n) then refuseIf (ltb sheetMost n) (SheetSize n)
+
+-- 64: the lengths add up to the m numbers that are lent as patterns
+unfoldable pub sheetSum : List ℕ → ℕ → Check
+sheetSum ls m = pick (eqb (beginOf ls (length ls)) m) Fine (Refused (SheetSum m))
+
+-- 63, then 64
+unfoldable pub sheet : List ℕ → ℕ → Check
+sheet ls m = sheetSize (length ls) then sheetSum ls m
 
 -- 24 to 29: the replacement
 unfoldable pub replacement : List ℕ → List ℕ → Check

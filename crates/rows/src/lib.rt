@@ -13,7 +13,7 @@ ghost use Rattle.rows.specs.declared.Kept.{Kept};
 ghost use Rattle.rows.specs.declared.Refusal.{Refusal};
 
 // The sizes within which everything is accepted: the most symbols of an alphabet, the largest arity, the most symbols of a row
-// or a replacement, the most numbers of a pattern.
+// or a replacement, the most numbers of a pattern, the most patterns of a sheet.
 pub const ALPHABET_MOST: usize = 1024;
 
 pub const ARITY_MOST: u16 = 15;
@@ -22,8 +22,11 @@ pub const ROW_MOST: usize = 16384;
 
 pub const PATTERN_MOST: usize = 256;
 
+pub const SHEET_MOST: usize = 64;
+
 // The numbers with a meaning of their own: the blank S; the variable X0, how many variables there are, and how many places their
-// begins and ends take; what freed places hold in a row, in its table and in its classes.
+// begins and ends take; how many places the result of one pattern of a sheet takes; what freed places hold in a row, in its table
+// and in its classes.
 pub const BLANK: u16 = 65535;
 
 pub const FIRST_VARIABLE: u16 = 65280;
@@ -33,6 +36,8 @@ pub const VARIABLES: u16 = 16;
 pub const PAST_VARIABLES: u16 = FIRST_VARIABLE + VARIABLES;
 
 pub const SPAN_PLACES: usize = 32;
+
+pub const RESULT_PLACES: usize = 3;
 
 pub const FREED_SYMBOL: u16 = 65535;
 
@@ -99,6 +104,8 @@ pub enum Refusal {
     TooLong(usize),
     OutputShort(usize),
     Input(Text),
+    SheetSize(usize),
+    SheetSum(usize),
 }
 
 pub enum Check {

@@ -359,7 +359,31 @@ fn list_by(
     Listing::All(count)
 }
 
-// The same. Only a buffer shorter than the row can be too short, and only there they are gathered first.
+// The same, with room for a longer row.
+fn list_far(
+    row: &[u16],
+    table: &[u16],
+    classes: &[u16],
+    pattern: &[u16],
+    out: &mut [u16],
+) -> Listing
+    requires { ⌜ Searchable (programme (now row) (now table) (now classes)) (now pattern) ⌝ }
+    ensures { λ r. ⌜ ((a : Alphabet) → Checked a (programme (now (row .entry)) (now (table .entry)) (now (classes .entry))) (now (pattern .entry)) → Lists a (now (row .entry)) (now (pattern .entry)) (now (out .entry)) r (now (out .exit))) ⌝ }
+{
+    if row.len() <= tables::FAIR {
+        let mut room = tables::fair_room();
+        return list_by(row, table, classes, pattern, out, &mut room);
+    }
+    if row.len() <= tables::MIDDLE {
+        let mut room = tables::middle_room();
+        return list_by(row, table, classes, pattern, out, &mut room);
+    }
+    let mut room = tables::long_room();
+    list_by(row, table, classes, pattern, out, &mut room)
+}
+
+// The same. Only a buffer shorter than the row can be too short, and only there they are gathered first. The function that makes larger
+// rooms is called from two places, and so the compiler keeps them out of the stack of a search that does without.
 pub fn list_matches(
     row: &[u16],
     table: &[u16],
@@ -374,15 +398,13 @@ pub fn list_matches(
         let count = write_matches(row, table, classes, pattern, out);
         return Listing::All(count);
     }
-    if row.len() <= tables::SHORT {
-        let mut room = tables::short_room();
-        return list_by(row, table, classes, pattern, out, &mut room);
+    if tables::MIDDLE < row.len() {
+        return list_far(row, table, classes, pattern, out);
     }
-    if row.len() <= tables::MIDDLE {
-        let mut room = tables::middle_room();
-        return list_by(row, table, classes, pattern, out, &mut room);
+    if tables::SHORT < row.len() {
+        return list_far(row, table, classes, pattern, out);
     }
-    let mut room = tables::long_room();
+    let mut room = tables::short_room();
     list_by(row, table, classes, pattern, out, &mut room)
 }
 

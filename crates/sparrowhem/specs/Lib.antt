@@ -4,3 +4,4 @@ pub mod Edit
 pub mod Parts
 pub mod Plain
 pub mod Search
+pub mod Sheet

@@ -10,6 +10,8 @@ use Rattle.sparrowhem.specs.declared.search.Found.{Found}
 use Rattle.sparrowhem.specs.declared.search.Found.the-variants.{Matches, Refused as FindRefused}
 use Rattle.sparrowhem.specs.declared.search.Bound.{Bound}
 use Rattle.sparrowhem.specs.declared.search.Bound.the-variants.{Matched, Unmatched, Refused as BindRefused}
+use Rattle.sparrowhem.specs.declared.search.SheetFound.{SheetFound}
+use Rattle.sparrowhem.specs.declared.search.SheetFound.the-variants.{Matches as SheetMatches, Refused as SheetRefused}
 use Rattle.sparrowhem.specs.declared.edit.Replaced.{Replaced}
 use Rattle.sparrowhem.specs.declared.edit.Replaced.the-variants.{Done, Refused as Unreplaced}
 use Rattle.sparrowhem.specs.declared.parts.Placed.{Placed}
@@ -42,6 +44,11 @@ abbrev pub boundSaid : Bound → Said
 boundSaid Matched = gives (pos 1 ∷ [])
 boundSaid Unmatched = gives (pos 0 ∷ [])
 boundSaid (BindRefused r) = refusal r
+
+-- sheet: the number of its patterns, and that of all positions
+abbrev pub sheetSaid : SheetFound → Said
+sheetSaid (SheetMatches n m) = gives (pos n ∷ pos m ∷ [])
+sheetSaid (SheetRefused r) = refusal r
 
 -- replace: the new length, and the change in length
 abbrev pub replacedSaid : Replaced → Said

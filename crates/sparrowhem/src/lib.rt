@@ -21,6 +21,8 @@ pub use rows::Check;
 pub use rows::Refusal;
 pub use search::Bound;
 pub use search::Found;
+pub use search::SheetFound;
 pub use search::find;
+pub use search::sheet;
 pub use search::variables;
 pub use table::build;

@@ -1,6 +1,7 @@
 // Patterns over a row with its table and its classes.
 ghost use Rattle.rows.specs.Programme.{alphabetOf, programme};
 ghost use Rattle.sparrowhem.specs.Search.{Finds, Binds};
+ghost use Rattle.sparrowhem.specs.Sheet.{SheetAnswers};
 use patterns::Walked;
 use rows::Check;
 use rows::Refusal;
@@ -16,6 +17,12 @@ pub enum Found {
 pub enum Bound {
     Matched,
     Unmatched,
+    Refused(Refusal),
+}
+
+// What a sheet answers: the number of its patterns and that of all their matches, or why it refuses.
+pub enum SheetFound {
+    Matches(usize, usize),
     Refused(Refusal),
 }
 
@@ -63,6 +70,43 @@ pub fn variables(
             match walked {
                 Walked::Through => Bound::Matched,
                 Walked::Fails(_, _) => Bound::Unmatched,
+            }
+        }
+    }
+}
+
+// Sheet: each of the patterns, which are laid end to end and have the lengths, is answered as find would alone. Positions of one pattern
+// after the other stand at the front of `positions`, and three numbers for each at the front of `results`: refusal or 0, place or 0,
+// count. Later places of both stay. A refusal of the sheet writes nothing; one of a pattern is in its result.
+pub fn sheet(
+    arities: &[u16],
+    row: &[u16],
+    table: &[u16],
+    classes: &[u16],
+    patterns: &[u16],
+    lengths: &[u16],
+    positions: &mut [u16],
+    results: &mut [u16],
+) -> SheetFound
+    ensures { λ r. ⌜ SheetAnswers (alphabetOf (now (arities .entry))) (programme (now (row .entry)) (now (table .entry)) (now (classes .entry))) (now (patterns .entry)) (now (lengths .entry)) (now (positions .entry)) (now (results .entry)) r (now (positions .exit)) (now (results .exit)) ⌝ }
+{
+    let places = results.len();
+    match checks::check_sheet(arities, row, table, classes, patterns, lengths, places) {
+        Check::Refused(r) => SheetFound::Refused(r),
+        Check::Fine => {
+            let listed = sheets::answer_sheet(
+                arities,
+                row,
+                table,
+                classes,
+                patterns,
+                lengths,
+                positions,
+                results,
+            );
+            match listed {
+                Listing::All(count) => SheetFound::Matches(lengths.len(), count),
+                Listing::Needs(count) => SheetFound::Refused(Refusal::OutputShort(count)),
             }
         }
     }

@@ -195,3 +195,27 @@ written-again bs vs small h =
     ∙ written-is bs (vs ++ drop (length vs) (numbers bs))
     ∙ again bs vs small h
     ∙ sym (written-is bs vs)
+
+-- the numbers of a part, which begins behind b numbers and has m
+numbers-drop : (bs : List ℕ) (b : ℕ) → numbers (drop (2 * b) bs) ≡ drop b (numbers bs)
+unfolding numbers
+numbers-drop bs zero = refl
+numbers-drop [] (suc b) = rw (twice b) refl
+numbers-drop (x ∷ []) (suc b) = rw (twice b) refl
+numbers-drop (x ∷ (y ∷ rest)) (suc b) = rw (twice b) (numbers-drop rest b)
+
+numbers-take : (bs : List ℕ) (m : ℕ) → numbers (take (2 * m) bs) ≡ take m (numbers bs)
+unfolding numbers
+numbers-take bs zero = refl
+numbers-take [] (suc m) = rw (twice m) refl
+numbers-take (x ∷ []) (suc m) = rw (twice m) refl
+numbers-take (x ∷ (y ∷ rest)) (suc m) = rw (twice m) (ap (λ (l : List ℕ). (x + 256 * y) ∷ l) (numbers-take rest m))
+
+pub numbers-part : (bs : List ℕ) (b m : ℕ) → numbers (take (2 * m) (drop (2 * b) bs)) ≡ take m (drop b (numbers bs))
+numbers-part bs b m = numbers-take (drop (2 * b) bs) m ∙ ap (take m) (numbers-drop bs b)
+
+-- the bytes of numbers behind others
+pub bytesOf-append : (us vs : List ℕ) → bytesOf (us ++ vs) ≡ bytesOf us ++ bytesOf vs
+unfolding bytesOf
+bytesOf-append [] vs = refl
+bytesOf-append (u ∷ us) vs = ap (λ (l : List ℕ). (u % 256) ∷ ((u / 256) ∷ l)) (bytesOf-append us vs)

@@ -59,3 +59,23 @@ pub fn encode(list: &[u16], bytes: &mut [u8])
         i += 1;
     }
 }
+
+// Writes the numbers behind the first `before` ones of `bytes`; the others stay.
+pub fn encode_behind(list: &[u16], before: usize, bytes: &mut [u8])
+    requires { ⌜ before + length (now list) ≤ length (numbers (now bytes)) ⌝ }
+    ensures { λ _. ⌜ now (bytes .exit) ≡ written (now (bytes .entry)) (2 * before) (bytesOf (now (list .entry))) ⌝ }
+{
+    encode(list, &mut bytes[2 * before..]);
+}
+
+// Copies bytes to the front of others; later bytes stay.
+pub fn copy(from: &[u8], to: &mut [u8])
+    requires { ⌜ length (now from) ≤ length (now to) ⌝ }
+    ensures { λ _. ⌜ now (to .exit) ≡ written (now (to .entry)) 0 (now (from .entry)) ⌝ }
+{
+    let mut i = 0;
+    while i < from.len() {
+        to[i] = from[i];
+        i += 1;
+    }
+}

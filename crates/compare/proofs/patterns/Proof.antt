@@ -1,4 +1,4 @@
--- `compare::patterns` meets its contract. The loop's invariant: i is at most 20.
+-- `compare::patterns` meets its contract. The loop's invariant: i is at most 14.
 -- Assumes nothing.
 use Prim.Native.Nat.{_≤_, _-_}
 use borrow.Author.Needs.{needs}
@@ -6,16 +6,19 @@ use Rattle.compare.proofs.patterns.Statement.{statement}
 use Rattle.compare.proofs.patterns.Tie as tie
 
 abbrev Inv-loop : tie.InvT-loop
-Inv-loop case list sum₀ i₀ sum i = i ≤ 20
+Inv-loop case list sum₀ i₀ sum i = i ≤ 14
 
 abbrev μ-loop : tie.MeasureT-loop
-μ-loop case list sum₀ i₀ sum i = 20 - i
+μ-loop case list sum₀ i₀ sum i = 14 - i
 
 loop-holds : tie.Need-loop-holds Inv-loop μ-loop
 loop-holds c = search needs
 
 list-at-requires : tie.Need-list-at-requires Inv-loop μ-loop
 list-at-requires c κs = search needs
+
+add-list-at : tie.Need-add-list-at Inv-loop μ-loop
+add-list-at c = search needs
 
 list-at-requires-2 : tie.Need-list-at-requires-2 Inv-loop μ-loop
 list-at-requires-2 c κs = search needs
@@ -43,6 +46,7 @@ patterns-spec =
     μ-loop
     loop-holds
     list-at-requires
+    add-list-at
     list-at-requires-2
     compared-requires
     add-i

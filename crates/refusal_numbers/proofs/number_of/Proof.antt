@@ -49,6 +49,12 @@ enum-known-refusal-6 c = search needs
 text-number-requires : tie.Need-text-number-requires
 text-number-requires c κs = search needs
 
+enum-told-4 : tie.Need-enum-told-4
+enum-told-4 c = search needs
+
+enum-told-5 : tie.Need-enum-told-5
+enum-told-5 c = search needs
+
 returns : tie.Need-returns
 returns c = search needs
 
@@ -76,6 +82,12 @@ returns-8 c = search needs
 returns-9 : tie.Need-returns-9
 returns-9 c = search needs
 
+returns-10 : tie.Need-returns-10
+returns-10 c = search needs
+
+returns-11 : tie.Need-returns-11
+returns-11 c = search needs
+
 pub number-of-spec : {M : Type 1} → statement M
 number-of-spec =
     tie.close
@@ -95,6 +107,8 @@ number-of-spec =
     enum-told-3
     enum-known-refusal-6
     text-number-requires
+    enum-told-4
+    enum-told-5
     returns
     returns-2
     returns-3
@@ -103,4 +117,6 @@ number-of-spec =
     returns-6
     returns-7
     returns-8
-    returns-9)
+    returns-9
+    returns-10
+    returns-11)

@@ -1,109 +1,114 @@
--- `c_copied::find_in` meets its contract. The copies are the row, and its table and classes as far as the row goes.
+-- `c_copied::find_in` meets its contract. What is read is refused, or the search goes on in the copies.
 -- Assumes nothing.
-use Prim.Native.Nat.{ℕ, _≤_}
-use mathlib.Core.Path.{_≡_, refl, sym, ap, ap₂, subst, _∙_}
+use Prim.Native.Nat.{ℕ}
+use mathlib.Core.Path.{_≡_, sym, ap, _∙_}
 use mathlib.Core.List.{List}
 use native.Mathlib.Omega.{arith}
-use lib.ListN.{length, take, length-take}
-use lib.Seq.{length-take-le, take-length, take-take}
-use Rattle.rows.specs.Programme.{Alphabet, Programme, alphabetOf, programme, room}
+use lib.ListN.{length}
+use lib.Seq.{length-take-le}
+use Rattle.rows.specs.Programme.{Programme, alphabetOf}
+use Rattle.rows.specs.Refusals.{_then_, pattern}
+use Rattle.rows.specs.declared.Check.{Check}
 use Rattle.rows.specs.declared.Check.the-variants.{Fine}
-use Rattle.rows.proofs.Passing.{Fits}
+use Rattle.checks.specs.Checks.{searchCheck}
 use Rattle.wire.specs.Wire.{numbers}
-use Rattle.wire.proofs.Numbers.{front-read}
-use Rattle.c_lent.specs.Calls.{FoundBytes}
 use Rattle.c_lent.specs.Lent.{lent, numbersOf}
-use Rattle.c_lent.specs.Reading.{sizesCheck}
-use Rattle.c_copied.proofs.Checks.{sizes-left, sizes-again}
-use Rattle.c_copied.proofs.Cut.{found-cut}
+use Rattle.c_copied.proofs.Found.{found-refused, found-whole}
+use Rattle.c_copied.proofs.Reading.{Copies, copies-read}
 use borrow.Author.Needs.{needs}
 use Rattle.c_copied.proofs.search.find_in.Statement.{statement}
 use Rattle.c_copied.proofs.search.find_in.Tie as tie
 
--- what the call is lent, and what the checks of the sizes leave
-module _ (s : tie.Start) where
-  abbrev a : Alphabet
-  a = alphabetOf (s .args .arities .now)
+-- what the call is lent, how long alphabet and row are, and the copies
+module _ (c : tie.After-read-given) where
+  abbrev start : tie.Start
+  start = c .before .before .before .before .before .before .before .before .before .before .before .before .before .before .before .before .before .before .before .before
+
+  abbrev A : List ℕ
+  A = numbers (start .args .arities .now)
 
   abbrev P : Programme
-  P = numbersOf (lent (s .args .row .now) (s .args .table .now) (s .args .classes .now))
+  P = numbersOf (lent (start .args .row .now) (start .args .table .now) (start .args .classes .now))
 
-  fits : Fits (length (P .row)) (room P)
-  fits = sizes-left a P (length (P .row)) (s .pre .0)
+  abbrev q : List ℕ
+  q = numbers (start .args .pattern .now)
 
--- the copies
-module _ (c : tie.After-count) where
-  abbrev start : tie.Start
-  start = c .before .before .before .before .before .before .before .before .before .before .before .before
+  abbrev k : ℕ
+  k = c .before .before .before .before .before .before .before .count .result
 
   abbrev n : ℕ
-  n = c .count .result
+  n = c .before .before .before .before .before .before .count2 .result
 
-  n-is : n ≡ length (P start .row)
-  n-is = c .count .ensures
+  abbrev a : List ℕ
+  a = c .read-given .last .1 .1 .1 .1 .0
 
   abbrev w : List ℕ
-  w = take n (start .args .w .now)
+  w = c .read-given .last .1 .1 .1 .1 .1 .0
 
   abbrev t : List ℕ
-  t = take n (start .args .t .now)
+  t = c .read-given .last .1 .1 .1 .1 .1 .1 .0
 
-  abbrev k : List ℕ
-  k = take n (start .args .c .now)
+  abbrev l : List ℕ
+  l = c .read-given .last .1 .1 .1 .1 .1 .1 .1 .0
 
-  row-is : w ≡ P start .row
-  row-is = ap (λ (k : ℕ). take k (start .args .w .now)) n-is ∙ start .pre .1 .0 .row ∙ take-length (P start .row)
+  copied : c .read-given .result ≡ Fine → Copies A P k n a w t l
+  copied e = copies-read A P k n a w t l (c .before .before .before .before .before .before .before .count .ensures) (c .before .before .before .before .before .before .count2 .ensures) (c .read-given .result) e (c .read-given .ensures)
 
-  table-is : t ≡ take n (P start .table)
-  table-is =
-      ap (λ (k : ℕ). take k (start .args .t .now)) n-is ∙ start .pre .1 .0 .table ∙ ap (λ (k : ℕ). take k (P start .table)) (sym n-is)
+-- nothing is refused of them
+module _ (c : tie.After-enum-told) where
+  abbrev d : tie.After-read-given
+  d = c .before .before .before .before .before .before .before .before .before .before .before .before
 
-  classes-are : k ≡ take n (P start .classes)
-  classes-are =
-      ap (λ (i : ℕ). take i (start .args .c .now)) n-is ∙ start .pre .1 .0 .classes ∙ ap (λ (i : ℕ). take i (P start .classes)) (sym n-is)
-
-  table-long : length t ≡ n
-  table-long = ap length table-is ∙ length-take-le n (P start .table) (omega (arith, n-is, fits start .room))
-
-  classes-long : length k ≡ n
-  classes-long = ap length classes-are ∙ length-take-le n (P start .classes) (omega (arith, n-is, fits start .room))
-
-  -- as long as the row, and within the copies
-  within : (n ≤ length (start .args .w .now)) × (n ≤ length (start .args .t .now)) × (n ≤ length (start .args .c .now))
-  within = (
-    omega (arith, n-is, ap length row-is, length-take n (start .args .w .now)),
-    omega (arith, table-long, length-take n (start .args .t .now)),
-    omega (arith, classes-long, length-take n (start .args .c .now)),
-  )
-
-  -- the copies fit too
-  cut : Fits (length (P start .row)) (room (programme (P start .row) t k))
-  cut = let f = fits start in record { some = f .some; most = f .most; room = omega (arith, n-is, table-long, classes-long) }
-
-  -- what is a copy of a list's front is one as far as the row goes
-  as-far : (u l : List ℕ) → u ≡ take n l → take (length (P start .row)) u ≡ take (length (P start .row)) l
-  as-far u l e = ap (λ (i : ℕ). take i u) (sym n-is) ∙ ap (take n) e ∙ take-take n n l (omega arith) ∙ ap (λ (i : ℕ). take i l) n-is
+  copies : Copies (A d) (P d) (k d) (n d) (a d) (w d) (t d) (l d)
+  copies = copied d (c .enum-told .given .1)
 
 count-requires : tie.Need-count-requires
 count-requires c κs = search needs
 
-slice-aggregate-find-copied : tie.Need-slice-aggregate-find-copied
-slice-aggregate-find-copied c = sym (length-take-le _ _ (within (c .before) .0))
+count-requires-2 : tie.Need-count-requires-2
+count-requires-2 c κs = search needs
 
-slice-aggregate-find-copied-2 : tie.Need-slice-aggregate-find-copied-2
-slice-aggregate-find-copied-2 c = sym (length-take-le _ _ (within (c .before .before) .1))
+read-given-requires : tie.Need-read-given-requires
+read-given-requires c κs = search needs
 
-slice-aggregate-find-copied-3 : tie.Need-slice-aggregate-find-copied-3
-slice-aggregate-find-copied-3 c = sym (length-take-le _ _ (within (c .before .before .before) .2))
+enum-known-r : tie.Need-enum-known-r
+enum-known-r c = search needs
 
-find-copied-requires : tie.Need-find-copied-requires
-find-copied-requires c κs =
-    let d = c .before .before .before .before .before .before in
-    let s = start d in (
-      subst (λ (l : List ℕ). sizesCheck (a s) (length l) (room (programme l (t d) (k d))) ≡ Fine) (sym (row-is d)) (sizes-again (a s) (P s) _ (s .pre .0) _ (cut d)),
-      omega (arith, ap length (row-is d), s .pre .1 .1),
-      s .pre .1 .2,
-    )
+refusal-of-requires : tie.Need-refusal-of-requires
+refusal-of-requires c κs = search needs
+
+enum-told : tie.Need-enum-told
+enum-told c = search needs
+
+slice-reshare-prefix-find-pattern : tie.Need-slice-reshare-prefix-find-pattern
+slice-reshare-prefix-find-pattern c = copies c .long-a
+
+slice-aggregate-find-pattern : tie.Need-slice-aggregate-find-pattern
+slice-aggregate-find-pattern c = sym (length-take-le _ _ (copies (c .before) .long-a))
+
+slice-reshare-prefix-find-pattern-2 : tie.Need-slice-reshare-prefix-find-pattern-2
+slice-reshare-prefix-find-pattern-2 c = copies (c .before) .long-w
+
+slice-aggregate-find-pattern-2 : tie.Need-slice-aggregate-find-pattern-2
+slice-aggregate-find-pattern-2 c = sym (length-take-le _ _ (copies (c .before .before) .long-w))
+
+slice-reshare-prefix-find-pattern-3 : tie.Need-slice-reshare-prefix-find-pattern-3
+slice-reshare-prefix-find-pattern-3 c = copies (c .before .before) .long-t
+
+slice-aggregate-find-pattern-3 : tie.Need-slice-aggregate-find-pattern-3
+slice-aggregate-find-pattern-3 c = sym (length-take-le _ _ (copies (c .before .before .before) .long-t))
+
+slice-reshare-prefix-find-pattern-4 : tie.Need-slice-reshare-prefix-find-pattern-4
+slice-reshare-prefix-find-pattern-4 c = copies (c .before .before .before) .long-c
+
+slice-aggregate-find-pattern-4 : tie.Need-slice-aggregate-find-pattern-4
+slice-aggregate-find-pattern-4 c = sym (length-take-le _ _ (copies (c .before .before .before .before) .long-c))
+
+find-pattern-requires : tie.Need-find-pattern-requires
+find-pattern-requires c κs =
+    let b = c .before .before .before .before .before .before .before in
+    let s = start (d b) in
+    (copies b .fine, omega (arith, ap length (copies b .row), copies b .most, d b .read-given .kept, s .pre .1 .3), s .pre .1 .4)
 
 same-length : tie.Need-same-length
 same-length c = search needs
@@ -114,28 +119,79 @@ same-length-2 c = search needs
 same-length-3 : tie.Need-same-length-3
 same-length-3 c = search needs
 
+same-length-4 : tie.Need-same-length-4
+same-length-4 c = search needs
+
+same-length-5 : tie.Need-same-length-5
+same-length-5 c = search needs
+
 returns : tie.Need-returns
+unfolding searchCheck
 returns c =
-    let d = c .before .before .before .before .before .before .before .before .before .before .before .before .before in
-    let s = start d in
-    let f = c .before .before .before .before .before .before .find-copied in
-    let q = numbers (s .args .pattern .now) in
-    let out′ = f .last .1 .1 .1 .1 .1 .1 .1 .0 in
-    found-cut (a s) (P s) q (t d) (k d) (fits s) (cut d)
-    (as-far d (t d) (P s .table) (table-is d)) (as-far d (k d) (P s .classes) (classes-are d))
-    (s .args .out .now) (f .result) out′
-    (subst (λ (l : List ℕ). FoundBytes (a s) (programme l (t d) (k d)) q (s .args .out .now) (f .result) out′) (row-is d) (f .ensures))
+    let b = c .before .before .before .before .before .before .before .before .before .before .before .before .before .before in
+    let r = c .before .before .r .given .0 .0 in
+    found-refused (alphabetOf (A b)) (P b) (q b) (start b .args .out .now) (λ i. c .before .before .before .before .before .before .before .before .before .before .before .before .before .before .before .before .before .before .before .before .before .before .before .before .before .before .before .before .slice-known .given i .fits) (c .refusal-of .result) r
+    (ap (λ (g : Check). g then pattern (A b) (q b)) (sym (b .read-given .ensures .answer) ∙ c .before .before .r .given .1))
+    (c .refusal-of .ensures)
+
+same-length-6 : tie.Need-same-length-6
+same-length-6 c = search needs
+
+same-length-7 : tie.Need-same-length-7
+same-length-7 c = search needs
+
+same-length-8 : tie.Need-same-length-8
+same-length-8 c = search needs
+
+same-length-9 : tie.Need-same-length-9
+same-length-9 c = search needs
+
+same-length-10 : tie.Need-same-length-10
+same-length-10 c = search needs
+
+same-length-11 : tie.Need-same-length-11
+same-length-11 c = search needs
+
+same-length-12 : tie.Need-same-length-12
+same-length-12 c = search needs
+
+returns-2 : tie.Need-returns-2
+returns-2 c =
+    let s = c .before .before .before .before .before .before .before .before .before .before .before .before .before .before in
+    let b = d s in
+    let f = c .before .before .before .before .before .before .find-pattern in
+    found-whole (A b) (P b) (k b) (n b) (a b) (w b) (t b) (l b) (copies s) (q b) (start b .args .out .now) (f .result) (f .last .1 .1 .1 .1 .1 .1 .1 .0) (f .ensures)
 
 pub find-in-spec : {M : Type 1} → statement M
 find-in-spec =
     tie.close
     (tie.spec
     count-requires
-    slice-aggregate-find-copied
-    slice-aggregate-find-copied-2
-    slice-aggregate-find-copied-3
-    find-copied-requires
+    count-requires-2
+    read-given-requires
+    enum-known-r
+    refusal-of-requires
+    enum-told
+    slice-reshare-prefix-find-pattern
+    slice-aggregate-find-pattern
+    slice-reshare-prefix-find-pattern-2
+    slice-aggregate-find-pattern-2
+    slice-reshare-prefix-find-pattern-3
+    slice-aggregate-find-pattern-3
+    slice-reshare-prefix-find-pattern-4
+    slice-aggregate-find-pattern-4
+    find-pattern-requires
     same-length
     same-length-2
     same-length-3
-    returns)
+    same-length-4
+    same-length-5
+    returns
+    same-length-6
+    same-length-7
+    same-length-8
+    same-length-9
+    same-length-10
+    same-length-11
+    same-length-12
+    returns-2)
