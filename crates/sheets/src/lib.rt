@@ -7,7 +7,7 @@ ghost use lib.ListN.{length};
 ghost use Rattle.rows.specs.Limits.{resultPlaces};
 ghost use Rattle.rows.specs.Programme.{alphabetOf, programme};
 ghost use Rattle.rows.specs.Buffers.{written};
-ghost use Rattle.rows.specs.Refusals.{given, pattern as patternCheck};
+ghost use Rattle.rows.specs.Refusals.{given};
 ghost use Rattle.rows.specs.declared.Check.the-variants.{Fine, Refused};
 ghost use Rattle.sheets.specs.Sheets.{Answered, AnsweredTo, Answerable, SheetListed};
 ghost use Rattle.sheets.specs.Result.{resultOf};
