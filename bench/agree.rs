@@ -1,6 +1,8 @@
 //! Before anything is timed: all versions answer and write the same, on every row that is timed and on faulty input.
 
-use crate::calls::{build, class_check, find, pass, plain_match, replace, sheet, variables, Buffers, By, Laid, ALL};
+use crate::baseline::Entry;
+use crate::calls::{build, catalogue_read, catalogue_write, class_check, find, pass, plain_match, replace, sheet, variables, Buffers, By, Laid, ALL};
+use crate::catalogues::{bytes, catalogue, Catalogue, Catalogues, ALPHABETS};
 use crate::lines::{crowded, mixed, patterns};
 use crate::rows::{Programme, Rows, ONE, TWO};
 
@@ -168,5 +170,166 @@ pub fn agree(rows: &Rows) {
             fault(&mut g);
             same_calls(what, &g);
         }
+    }
+}
+
+/// A file read into records of every number that matters.
+fn same_reading(what: &str, file: &[u8]) {
+    let said = if file.len() < 2 { 0 } else { u16::from_le_bytes([file[0], file[1]]) as usize };
+    for places in [0, said.saturating_sub(1), said, said + 1] {
+        same(what, &ALL, |by| {
+            let mut entries = vec![Entry { programme: 1, start: 2, length: 3 }; places.min(300)];
+            (catalogue_read(by, file, &mut entries), entries)
+        });
+    }
+}
+
+/// A catalogue written into buffers of every size that matters, and its file read.
+fn same_catalogues(what: &str, c: &Catalogue) {
+    let file = c.file();
+    for room in [0, file.len().saturating_sub(1), file.len(), file.len() + 3] {
+        same(what, &ALL, |by| {
+            let mut out = vec![7; room];
+            (catalogue_write(by, c, &mut out), out)
+        });
+    }
+    same_reading(what, &file);
+}
+
+impl Catalogue {
+    /// Another programme behind the others.
+    fn push(&mut self, number: u32, row: &[u16]) {
+        self.rows.truncate(self.rows.len() & !1);
+        self.numbers.push(number);
+        self.lengths.push(row.len() as u32);
+        self.rows.extend(bytes(row));
+    }
+
+    /// A symbol before the first row, which then goes on after its tree where it is a leaf, and else ends early.
+    fn precede(&mut self, symbol: u16) {
+        self.rows.splice(0..0, symbol.to_le_bytes());
+        self.lengths.iter_mut().take(1).for_each(|length| *length += 1);
+    }
+
+    /// A number above the last one.
+    fn next(&self) -> u32 {
+        self.numbers.last().map_or(7, |number| number.wrapping_add(1))
+    }
+}
+
+/// One fault each in what the writer is lent, most with a refusal of its own; the first two are none.
+const CATALOGUE_FAULTS: [(&str, fn(&mut Catalogue)); 29] = [
+    ("no programmes", |c| *c = Catalogue { arities: c.arities.clone(), numbers: vec![], lengths: vec![], rows: vec![] }),
+    ("odd bytes behind", |c| [&mut c.arities, &mut c.rows].into_iter().for_each(|list| list.push(7))),
+    ("257 programmes", |c| (0..257).for_each(|_| c.push(c.next(), &[0]))),
+    ("an alphabet without symbols", |c| c.arities.clear()),
+    ("a long alphabet", |c| c.arities.resize(2 * 1025, 0)),
+    ("a first arity of 16", |c| c.arities.iter_mut().take(1).for_each(|byte| *byte = 16)),
+    ("a last arity of 256", |c| c.arities.extend([0, 1])),
+    ("an alphabet without a leaf", |c| c.arities.chunks_exact_mut(2).for_each(|arity| arity[0] = arity[0].max(1))),
+    ("a number twice", |c| c.push(c.next().wrapping_sub(1), &[0])),
+    ("a number that falls", |c| c.push(c.next().wrapping_sub(2), &[0])),
+    ("a first number that is large", |c| c.numbers.iter_mut().take(1).for_each(|number| *number = u32::MAX)),
+    ("a length too many", |c| c.lengths.push(0)),
+    ("a length too few", |c| c.lengths.truncate(c.lengths.len().saturating_sub(1))),
+    ("lengths that add up to more", |c| c.lengths.iter_mut().take(1).for_each(|length| *length += 1)),
+    ("lengths that add up to less", |c| c.lengths.iter_mut().take(1).for_each(|length| *length = length.saturating_sub(1))),
+    ("a length of 2^31 more", |c| c.lengths.iter_mut().take(1).for_each(|length| *length ^= 1 << 31)),
+    ("lengths of 2^32 more", |c| (0..2).for_each(|_| {
+        c.push(c.next(), &[]);
+        *c.lengths.last_mut().expect("a length") = 1 << 31;
+    })),
+    ("rows that are cut elsewhere", |c| if let [first, second, ..] = &mut c.lengths[..] {
+        *first += 1;
+        *second = second.saturating_sub(1);
+    }),
+    ("a long file", |c| (0..4).for_each(|_| c.push(c.next(), &[0; 8192]))),
+    ("an empty first row", |c| {
+        c.numbers.insert(0, 0);
+        c.lengths.insert(0, 0);
+    }),
+    ("an empty last row", |c| c.push(c.next(), &[])),
+    ("a long row", |c| c.push(c.next(), &[0; 16385])),
+    ("the longest row and one symbol", |c| c.push(c.next(), &[&[1; 16384][..], &[0]].concat())),
+    ("a first number that is no symbol", |c| c.precede((c.arities.len() / 2) as u16)),
+    ("a last number that is no symbol", |c| c.push(c.next(), &[1, 1, 65535])),
+    ("a row that ends early", |c| c.push(c.next(), &[2, 0])),
+    ("a first row that ends early", |c| c.precede(2)),
+    ("a row that goes on", |c| c.push(c.next(), &[1, 0, 65535])),
+    ("a first row that goes on", |c| c.precede(0)),
+];
+
+fn put(file: &mut [u8], at: usize, bytes: &[u8]) {
+    if let Some(there) = file.get_mut(at..at + bytes.len()) {
+        there.copy_from_slice(bytes);
+    }
+}
+
+/// One fault each in the bytes of a file.
+const FILE_FAULTS: [(&str, fn(&mut Vec<u8>)); 16] = [
+    ("no bytes", |file| file.clear()),
+    ("three bytes", |file| file.truncate(3)),
+    ("a head alone", |file| file.truncate(4)),
+    ("contents that are cut off", |file| file.truncate(15)),
+    ("a byte less", |file| file.truncate(file.len().saturating_sub(1))),
+    ("a byte more", |file| file.push(0)),
+    ("a byte too many", |file| file.resize(65537, 0)),
+    ("as many bytes as there may be", |file| file.resize(65536, 0)),
+    ("no programmes in the head", |file| put(file, 0, &[0, 0])),
+    ("257 programmes in the head", |file| put(file, 0, &[1, 1])),
+    ("65,535 programmes in the head", |file| put(file, 0, &[255, 255])),
+    ("no symbols in the head", |file| put(file, 2, &[0, 0])),
+    ("1,025 symbols in the head", |file| put(file, 2, &[1, 4])),
+    ("a first row that starts late", |file| put(file, 8, &[255, 0, 0, 0])),
+    ("a first row that starts 2^24 late", |file| put(file, 11, &[1])),
+    ("a first length that is the longest", |file| put(file, 12, &[255; 4])),
+];
+
+/// Two faults at a time, which shows their order: in what is written, in a file, and one in each.
+fn same_faults(c: &Catalogue) {
+    for (one, fault) in CATALOGUE_FAULTS {
+        let mut faulty = c.clone();
+        fault(&mut faulty);
+        same_catalogues(one, &faulty);
+        for (other, fault) in CATALOGUE_FAULTS {
+            let mut both = faulty.clone();
+            fault(&mut both);
+            same_catalogues(&format!("{one} and {other}"), &both);
+        }
+        for (other, fault) in FILE_FAULTS {
+            let mut both = faulty.file();
+            fault(&mut both);
+            same_reading(&format!("{one} and {other}"), &both);
+        }
+    }
+    for (one, fault) in FILE_FAULTS {
+        let mut file = c.file();
+        fault(&mut file);
+        same_reading(one, &file);
+        for (other, fault) in FILE_FAULTS {
+            let mut both = file.clone();
+            fault(&mut both);
+            same_reading(&format!("{one} and {other}"), &both);
+        }
+    }
+}
+
+/// Faults are put into small catalogues.
+pub fn faulty_catalogues() {
+    for symbols in ALPHABETS {
+        for lengths in [&[1][..], &[16], &[9, 70, 16]] {
+            same_faults(&catalogue("random", symbols, lengths, 2026));
+        }
+    }
+}
+
+pub fn catalogues(all: &Catalogues) {
+    for (c, file) in all.all.iter().flatten() {
+        same_catalogues(&all.on, c);
+        same(&all.on, &ALL, |by| {
+            let mut out = vec![7; file.len()];
+            catalogue_write(by, c, &mut out).refusal == 0 && out == *file
+        });
+        assert!(catalogue_read(By::Library, file, &mut [Entry { programme: 0, start: 0, length: 0 }; 256]).refusal == 0, "{}: refused", all.on);
     }
 }

@@ -1,5 +1,6 @@
 //! What the calls are held to, and how far each is from it.
 
+use crate::catalogues::{self, SIZES};
 use crate::lines::PATTERNS;
 use crate::rows::{COLLIDING, LENGTHS, SHAPES};
 use crate::timing::Measured;
@@ -45,20 +46,35 @@ impl Bar {
         n >= self.from && figure > self.limit(n)
     }
 
-    /// A line of the table: the bar, its limits, and the worst figure at each length, in bold where the bar is broken.
-    fn line(&self, all: &[Measured]) -> String {
+    /// A line of the table: the bar, its limits, and the worst figure in each column, in bold where the bar is broken.
+    fn line(&self, columns: &[Column], all: &[Measured]) -> String {
         let limits = match (self.most, self.shortest) {
             (most, _) if most.is_infinite() => "not held".to_string(),
             (most, shortest) if most == shortest => most.to_string(),
             (most, shortest) => format!("{most}; {shortest} at 16"),
         };
-        let cell = |n| match self.worst(all, n) {
+        let cell = |&(n, _): &Column| match self.worst(all, n) {
             None => " |".to_string(),
             Some((figure, _)) if self.broken_by(figure, n) => format!(" **{figure:.2}** |"),
             Some((figure, _)) => format!(" {figure:.2} |"),
         };
-        format!("| {} | {limits} |{}\n", self.what, LENGTHS.map(cell).concat())
+        format!("| {} | {limits} |{}\n", self.what, columns.iter().map(cell).collect::<String>())
     }
+}
+
+/// A column of a table: the length of its rows, or of all rows of a catalogue, and its name.
+type Column = (usize, String);
+
+fn rows() -> Vec<Column> {
+    LENGTHS.map(|n| (n, n.to_string())).to_vec()
+}
+
+fn files() -> Vec<Column> {
+    let column = |programmes: usize, each: usize| {
+        let name = if programmes == 1 { each.to_string() } else { format!("{programmes} of {each}") };
+        (catalogues::lengths(programmes, each).iter().sum(), name)
+    };
+    SIZES.iter().flat_map(|&(_, programmes, sizes)| sizes.iter().map(move |&each| column(programmes, each))).collect()
 }
 
 fn is(m: &Measured, call: &str, on: &str) -> bool {
@@ -86,7 +102,7 @@ fn on_any(m: &Measured, shapes: &[&str]) -> bool {
 
 /// A whole call of the library, with all four versions timed.
 fn whole(m: &Measured) -> bool {
-    !m.of_rust().is_nan()
+    !m.of_rust().is_nan() && !m.is_on_file()
 }
 
 fn beside_the_strongest() -> Vec<Bar> {
@@ -159,28 +175,46 @@ fn beside_the_inner_calls() -> Vec<Bar> {
     ]
 }
 
-fn table(what: &str, bars: &[Bar], all: &[Measured]) -> String {
+/// What shorter files cost is not held.
+fn on_files() -> Vec<Bar> {
+    let read: fn(&Measured) -> bool = |m| m.call == "sparrowhem_catalogue_read";
+    let write: fn(&Measured) -> bool = |m| m.call == "sparrowhem_catalogue_write";
+    vec![
+        Bar::other("reading, of the Rust", 1.0, 1024, read, Measured::of_rust),
+        Bar::other("reading, of the plain C", 1.15, 1024, read, Measured::of_c),
+        Bar::other("reading, of the strongest C", 1.15, 1024, read, Measured::of_strongest),
+        Bar::other("writing, of the Rust", 1.0, 1024, write, Measured::of_rust),
+        Bar::other("writing, of the plain C", 1.15, 1024, write, Measured::of_c),
+        Bar::other("writing, of the strongest C", 1.15, 1024, write, Measured::of_strongest),
+    ]
+}
+
+fn table(what: &str, bars: &[Bar], columns: &[Column], all: &[Measured]) -> String {
     let mut text = format!("| {what} | at most |");
-    LENGTHS.iter().for_each(|n| write!(text, " {n} |").unwrap());
-    text += &format!("\n|---|---|{}\n", "---|".repeat(LENGTHS.len()));
-    bars.iter().fold(text, |text, bar| text + &bar.line(all))
+    columns.iter().for_each(|(_, name)| write!(text, " {name} |").unwrap());
+    text += &format!("\n|---|---|{}\n", "---|".repeat(columns.len()));
+    bars.iter().fold(text, |text, bar| text + &bar.line(columns, all))
 }
 
 pub fn bars(all: &[Measured]) -> String {
-    table("of the strongest C", &beside_the_strongest(), all) + "\n" + &table("of other times", &others(), all)
+    table("of the strongest C", &beside_the_strongest(), &rows(), all) + "\n" + &table("of other times", &others(), &rows(), all)
 }
 
 pub fn exported(all: &[Measured]) -> String {
-    table("of the inner call", &beside_the_inner_calls(), all)
+    table("of the inner call", &beside_the_inner_calls(), &rows(), all)
+}
+
+pub fn catalogue(all: &[Measured]) -> String {
+    table("catalogue files", &on_files(), &files(), all)
 }
 
 /// Each broken bar at each length, with the line that breaks it most.
 pub fn broken(all: &[Measured]) -> String {
     let mut text = String::new();
-    for bar in beside_the_strongest().iter().chain(&others()).chain(&beside_the_inner_calls()) {
-        for n in LENGTHS {
-            if let Some((figure, m)) = bar.worst(all, n).filter(|&(figure, _)| bar.broken_by(figure, n)) {
-                writeln!(text, "over its bar: {} at {n}: {figure:.2}, at most {} ({}, {}, {})", bar.what, bar.limit(n), m.call, m.on, m.shape).unwrap();
+    for (bars, columns) in [(beside_the_strongest(), rows()), (others(), rows()), (beside_the_inner_calls(), rows()), (on_files(), files())] {
+        for (bar, (n, name)) in bars.iter().flat_map(|bar| columns.iter().map(move |column| (bar, column))) {
+            if let Some((figure, m)) = bar.worst(all, *n).filter(|&(figure, _)| bar.broken_by(figure, *n)) {
+                writeln!(text, "over its bar: {} at {name}: {figure:.2}, at most {} ({}, {}, {})", bar.what, bar.limit(*n), m.call, m.on, m.shape).unwrap();
             }
         }
     }

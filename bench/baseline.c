@@ -459,3 +459,151 @@ answer c_plain_match(const uint16_t *arities, size_t symbols, const uint16_t *ro
     const uint16_t *rest = row + position;
     return counted(node(arities, &pattern, &rest, bound));
 }
+
+/* Catalogue files: numbers are bytes, the low one first. */
+
+typedef struct {
+    uint32_t programme, start, length;
+} entry;
+
+typedef struct {
+    uint32_t refusal, programme;
+    uint64_t place, count;
+} catalogue_answer;
+
+enum { HEAD = 4, ENTRY = 12, MOST_SYMBOLS = 1024, MOST_ARITY = 15, MOST_PROGRAMMES = 256, MOST_FILE = 65536 };
+
+/* An answer on a catalogue, with a programme where one has a fault. */
+static catalogue_answer told(answer a, uint32_t programme) {
+    return (catalogue_answer){(uint32_t)a.refusal, programme, a.place, a.count};
+}
+
+static uint16_t half_at(const uint8_t *bytes) { return (uint16_t)(bytes[0] | bytes[1] << 8); }
+
+static uint16_t number_at(const uint8_t *list, size_t i) { return half_at(list + 2 * i); }
+
+static uint32_t wide_at(const uint8_t *bytes) { return bytes[0] | bytes[1] << 8 | bytes[2] << 16 | (uint32_t)bytes[3] << 24; }
+
+static void put_wide(uint8_t *bytes, uint32_t v) {
+    for (size_t i = 0; i < 4; i++) bytes[i] = (uint8_t)(v >> 8 * i);
+}
+
+/* The k-th entry of the contents, with the place where it stands in the file. */
+static size_t entry_place(size_t k) { return HEAD + ENTRY * k; }
+
+static entry entry_at(const uint8_t *file, size_t k) {
+    const uint8_t *at = file + entry_place(k);
+    return (entry){wide_at(at), wide_at(at + 4), wide_at(at + 8)};
+}
+
+/* Refusals 1 to 3, of arities that are a byte each. */
+static answer check_arities(const uint8_t *arities, size_t symbols) {
+    if (symbols == 0 || symbols > MOST_SYMBOLS) return refused(1, symbols);
+    for (size_t s = 0; s < symbols; s++)
+        if (arities[s] > MOST_ARITY) return refused(2, s);
+    return memchr(arities, 0, symbols) ? counted(0) : refused(3, 0);
+}
+
+/* Refusals 4, 5, 7, 8 and 9: so many symbols are due in all, one for the root and as many as each symbol so far has children. */
+static answer check_tree(const uint8_t *arities, size_t symbols, const uint8_t *row, size_t n) {
+    answer a = check_size(n, MOST, ROW);
+    if (a.refusal) return a;
+    size_t due = 1;
+    for (size_t i = 0; i < n; i++) {
+        if (due == i) return refused(9, i);
+        size_t s = number_at(row, i);
+        if (s >= symbols) return refused(7, i);
+        due += arities[s];
+    }
+    return due == n ? counted(0) : refused(8, n);
+}
+
+/* Refusals 67 to 69. */
+static answer check_contents(const uint8_t *file, size_t bytes, size_t n, size_t first) {
+    uint64_t least = 0, next = first;
+    for (size_t k = 0; k < n; k++) {
+        uint64_t programme = entry_at(file, k).programme;
+        if (programme < least) return refused(67, entry_place(k));
+        least = programme + 1;
+    }
+    for (size_t k = 0; k < n; k++) {
+        entry e = entry_at(file, k);
+        if (e.start != next) return refused(68, entry_place(k));
+        next += 2 * (uint64_t)e.length;
+        if (next > bytes) return refused(68, entry_place(k));
+    }
+    return next == bytes ? counted(0) : refused(69, next);
+}
+
+catalogue_answer c_catalogue_read(const uint8_t *file, size_t bytes, entry *entries, size_t count) {
+    if (bytes > MOST_FILE) return told(refused(66, bytes), 0);
+    if (bytes < HEAD) return told(refused(65, bytes), 0);
+    size_t n = number_at(file, 0), symbols = number_at(file, 1), first = entry_place(n) + symbols;
+    if (bytes < first) return told(refused(65, bytes), 0);
+    if (n > MOST_PROGRAMMES) return told(refused(88, n), 0);
+    const uint8_t *arities = file + entry_place(n);
+    answer a = check_arities(arities, symbols);
+    if (!a.refusal) a = check_contents(file, bytes, n, first);
+    if (a.refusal) return told(a, 0);
+    for (size_t k = 0; k < n; k++) {
+        entry e = entry_at(file, k);
+        a = check_tree(arities, symbols, file + e.start, e.length);
+        if (a.refusal) return told(a, e.programme);
+    }
+    if (count < n) return told(refused(19, n), 0);
+    for (size_t k = 0; k < n; k++) entries[k] = entry_at(file, k);
+    return told(counted(n), 0);
+}
+
+/* Refusals 1 to 3, of arities that are lent as numbers. They become a byte each. */
+static answer narrow(const uint8_t *list, size_t symbols, uint8_t *arities) {
+    if (symbols == 0 || symbols > MOST_SYMBOLS) return refused(1, symbols);
+    for (size_t s = 0; s < symbols; s++) {
+        if (number_at(list, s) > MOST_ARITY) return refused(2, s);
+        arities[s] = list[2 * s];
+    }
+    return memchr(arities, 0, symbols) ? counted(0) : refused(3, 0);
+}
+
+/* Refusals 67, 68 and 66, for rows of m symbols and a file of so many bytes. */
+static answer check_lists(const uint32_t *numbers, size_t n, const uint32_t *lengths, size_t many, size_t m, size_t bytes) {
+    for (size_t k = 1; k < n; k++)
+        if (numbers[k] <= numbers[k - 1]) return refused(67, k);
+    uint64_t sum = 0;
+    for (size_t k = 0; k < many; k++) sum += lengths[k];
+    if (many != n || sum != m) return refused(68, m);
+    return bytes > MOST_FILE ? refused(66, bytes) : counted(0);
+}
+
+/* Head and contents. */
+static void write_front(uint8_t *file, size_t symbols, const uint32_t *numbers, const uint32_t *lengths, size_t n) {
+    size_t next = entry_place(n) + symbols;
+    put_wide(file, (uint32_t)(n | symbols << 16));
+    for (size_t k = 0; k < n; k++) {
+        uint8_t *at = file + entry_place(k);
+        put_wide(at, numbers[k]);
+        put_wide(at + 4, (uint32_t)next);
+        put_wide(at + 8, lengths[k]);
+        next += 2 * (size_t)lengths[k];
+    }
+}
+
+catalogue_answer c_catalogue_write(const uint8_t *list, size_t list_bytes, const uint32_t *numbers, size_t n, const uint32_t *lengths,
+                                   size_t many, const uint8_t *rows, size_t rows_bytes, uint8_t *file, size_t room) {
+    uint8_t arities[MOST_SYMBOLS];
+    size_t symbols = list_bytes / 2, m = rows_bytes / 2, first = entry_place(n) + symbols, next = 0;
+    if (n > MOST_PROGRAMMES) return told(refused(88, n), 0);
+    answer a = narrow(list, symbols, arities);
+    if (!a.refusal) a = check_lists(numbers, n, lengths, many, m, first + 2 * m);
+    if (a.refusal) return told(a, 0);
+    for (size_t k = 0; k < n; k++) {
+        a = check_tree(arities, symbols, rows + 2 * next, lengths[k]);
+        if (a.refusal) return told(a, numbers[k]);
+        next += lengths[k];
+    }
+    if (room < first + 2 * m) return told(refused(19, first + 2 * m), 0);
+    write_front(file, symbols, numbers, lengths, n);
+    memcpy(file + entry_place(n), arities, symbols);
+    if (m > 0) memcpy(file + first, rows, 2 * m);
+    return told(counted(first + 2 * m), 0);
+}

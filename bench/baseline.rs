@@ -550,3 +550,184 @@ pub fn plain_match(arities: &[u16], row: &[u16], pattern: &[u16], position: usiz
     }
     Ok(node(arities, pattern, &row[position..], &mut [None; 16]).is_some())
 }
+
+/// An entry of a catalogue's contents, as include/sparrowhem.h says.
+#[repr(C)]
+#[derive(Clone, Copy, Debug, PartialEq)]
+pub struct Entry {
+    pub programme: u32,
+    pub start: u32,
+    pub length: u32,
+}
+
+/// A refusal of a catalogue: its number, the programme whose row is faulty or 0, and its place.
+pub type CatalogueRefusal = (u32, u32, u64);
+
+const HEAD: usize = 4;
+const ENTRY: usize = 12;
+const MOST_PROGRAMMES: usize = 256;
+const MOST_FILE: usize = 65536;
+
+fn number(bytes: &[u8]) -> usize {
+    u16::from_le_bytes([bytes[0], bytes[1]]) as usize
+}
+
+fn wide(bytes: &[u8]) -> u32 {
+    u32::from_le_bytes([bytes[0], bytes[1], bytes[2], bytes[3]])
+}
+
+fn entry(bytes: &[u8]) -> Entry {
+    Entry { programme: wide(bytes), start: wide(&bytes[4..]), length: wide(&bytes[8..]) }
+}
+
+/// A refusal that is about no programme.
+fn plainly((refusal, place): Refusal) -> CatalogueRefusal {
+    (refusal, 0, place)
+}
+
+/// Refusals 1 to 3, of arities that are a byte each.
+fn check_arities(arities: &[u8]) -> Result<(), Refusal> {
+    if arities.is_empty() || arities.len() > 1024 {
+        return Err((1, arities.len() as u64));
+    }
+    if let Some(s) = arities.iter().position(|&a| a > 15) {
+        return Err((2, s as u64));
+    }
+    if !arities.contains(&0) {
+        return Err((3, 0));
+    }
+    Ok(())
+}
+
+/// Refusals 4, 5, 7, 8 and 9: so many symbols are due in all, one for the root and as many as each symbol so far has children.
+fn check_tree(arities: &[u8], row: &[u8]) -> Result<(), Refusal> {
+    check_size(row.len() / 2, 16384, ROW)?;
+    let mut due = 1;
+    for (i, s) in row.chunks_exact(2).map(number).enumerate() {
+        if due == i {
+            return Err((9, i as u64));
+        }
+        match arities.get(s) {
+            Some(&arity) => due += arity as usize,
+            None => return Err((7, i as u64)),
+        }
+    }
+    if due != row.len() / 2 {
+        return Err((8, (row.len() / 2) as u64));
+    }
+    Ok(())
+}
+
+/// Refusals 4, 5, 7, 8 and 9 of rows laid end to end, each with its programme and its length.
+fn check_trees(arities: &[u8], mut rows: &[u8], programmes: impl Iterator<Item = (u32, u32)>) -> Result<(), CatalogueRefusal> {
+    for (programme, length) in programmes {
+        let (row, behind) = rows.split_at(2 * length as usize);
+        check_tree(arities, row).map_err(|(refusal, place)| (refusal, programme, place))?;
+        rows = behind;
+    }
+    Ok(())
+}
+
+/// Refusals 67 to 69.
+fn check_contents(contents: &[u8], first: usize, bytes: usize) -> Result<(), Refusal> {
+    let place = |k: usize| (HEAD + ENTRY * k) as u64;
+    let entries = || contents.chunks_exact(ENTRY).map(entry).enumerate();
+    let mut before = None;
+    for (k, e) in entries() {
+        if before >= Some(e.programme) {
+            return Err((67, place(k)));
+        }
+        before = Some(e.programme);
+    }
+    let mut next = first as u64;
+    for (k, e) in entries() {
+        let end = next + 2 * e.length as u64;
+        if e.start as u64 != next || end > bytes as u64 {
+            return Err((68, place(k)));
+        }
+        next = end;
+    }
+    if next != bytes as u64 {
+        return Err((69, next));
+    }
+    Ok(())
+}
+
+pub fn catalogue_read(file: &[u8], entries: &mut [Entry]) -> Result<usize, CatalogueRefusal> {
+    if file.len() > MOST_FILE {
+        return Err((66, 0, file.len() as u64));
+    }
+    if file.len() < HEAD {
+        return Err((65, 0, file.len() as u64));
+    }
+    let (n, symbols) = (number(file), number(&file[2..]));
+    let first = HEAD + ENTRY * n + symbols;
+    if file.len() < first {
+        return Err((65, 0, file.len() as u64));
+    }
+    if n > MOST_PROGRAMMES {
+        return Err((88, 0, n as u64));
+    }
+    let (contents, arities) = file[HEAD..first].split_at(ENTRY * n);
+    check_arities(arities).map_err(plainly)?;
+    check_contents(contents, first, file.len()).map_err(plainly)?;
+    let read = || contents.chunks_exact(ENTRY).map(entry);
+    check_trees(arities, &file[first..], read().map(|e| (e.programme, e.length)))?;
+    if entries.len() < n {
+        return Err((19, 0, n as u64));
+    }
+    for (to, e) in entries.iter_mut().zip(read()) {
+        *to = e;
+    }
+    Ok(n)
+}
+
+/// Arities that are lent as numbers, a byte each. What is above 15 stays so.
+fn narrow(list: &[u8]) -> Vec<u8> {
+    list.chunks_exact(2).map(|bytes| number(bytes).min(16) as u8).collect()
+}
+
+/// Refusals 67, 68 and 66, for rows of m symbols and a file of so many bytes.
+fn check_lists(numbers: &[u32], lengths: &[u32], m: usize, bytes: usize) -> Result<(), Refusal> {
+    if let Some(k) = numbers.windows(2).position(|pair| pair[1] <= pair[0]) {
+        return Err((67, k as u64 + 1));
+    }
+    if lengths.len() != numbers.len() || lengths.iter().map(|&length| length as u64).sum::<u64>() != m as u64 {
+        return Err((68, m as u64));
+    }
+    if bytes > MOST_FILE {
+        return Err((66, bytes as u64));
+    }
+    Ok(())
+}
+
+pub fn catalogue_write(list: &[u8], numbers: &[u32], lengths: &[u32], rows: &[u8], file: &mut [u8]) -> Result<usize, CatalogueRefusal> {
+    let (n, m) = (numbers.len(), rows.len() / 2);
+    if n > MOST_PROGRAMMES {
+        return Err((88, 0, n as u64));
+    }
+    let arities = narrow(list);
+    check_arities(&arities).map_err(plainly)?;
+    let first = HEAD + ENTRY * n + arities.len();
+    let bytes = first + 2 * m;
+    check_lists(numbers, lengths, m, bytes).map_err(plainly)?;
+    check_trees(&arities, rows, numbers.iter().copied().zip(lengths.iter().copied()))?;
+    if file.len() < bytes {
+        return Err((19, 0, bytes as u64));
+    }
+    let (head, behind) = file[..bytes].split_at_mut(HEAD);
+    let (contents, behind) = behind.split_at_mut(ENTRY * n);
+    let (alphabet, trees) = behind.split_at_mut(arities.len());
+    head[..2].copy_from_slice(&(n as u16).to_le_bytes());
+    head[2..].copy_from_slice(&(arities.len() as u16).to_le_bytes());
+    let mut next = first as u32;
+    for (to, (number, length)) in contents.chunks_exact_mut(ENTRY).zip(numbers.iter().zip(lengths)) {
+        to[..4].copy_from_slice(&number.to_le_bytes());
+        to[4..8].copy_from_slice(&next.to_le_bytes());
+        to[8..].copy_from_slice(&length.to_le_bytes());
+        next += 2 * length;
+    }
+    alphabet.copy_from_slice(&arities);
+    trees.copy_from_slice(&rows[..2 * m]);
+    Ok(bytes)
+}

@@ -1,6 +1,7 @@
 //! The calls, by the library, in plain Rust, in plain C and in the strongest C; and those that the library exports to C.
 
-use crate::baseline;
+use crate::baseline::{self, Entry};
+use crate::catalogues::Catalogue;
 
 #[repr(C)]
 #[derive(Clone, Copy, Debug, PartialEq)]
@@ -224,5 +225,57 @@ pub fn plain_match(by: By, arities: &[u16], row: &[u16], pattern: &[u16], positi
         By::C => unsafe { c_plain_match(a, k, w, n, q, l, position) },
         By::Strong => unsafe { strong_plain_match(a, k, w, n, q, l, position) },
         By::Exported => unreachable!("{NOT_EXPORTED}"),
+    }
+}
+
+/// What is answered on a catalogue, as include/sparrowhem.h says.
+#[repr(C)]
+#[derive(Clone, Copy, Debug, PartialEq)]
+pub struct CatalogueAnswer {
+    pub refusal: u32,
+    pub programme: u32,
+    pub place: u64,
+    pub count: u64,
+}
+
+macro_rules! catalogue_calls {
+    ($($read:ident $write:ident)*) => { extern "C" { $(
+        fn $read(file: *const u8, bytes: usize, entries: *mut Entry, count: usize) -> CatalogueAnswer;
+        fn $write(arities: *const u8, arities_bytes: usize, numbers: *const u32, n: usize, lengths: *const u32, many: usize,
+            rows: *const u8, rows_bytes: usize, file: *mut u8, room: usize) -> CatalogueAnswer;
+    )* } };
+}
+catalogue_calls! {
+    sparrowhem_catalogue_read sparrowhem_catalogue_write
+    c_catalogue_read c_catalogue_write
+    strong_catalogue_read strong_catalogue_write
+}
+
+fn answered_on_file(r: Result<usize, baseline::CatalogueRefusal>) -> CatalogueAnswer {
+    match r {
+        Ok(count) => CatalogueAnswer { refusal: 0, programme: 0, place: 0, count: count as u64 },
+        Err((refusal, programme, place)) => CatalogueAnswer { refusal, programme, place, count: 0 },
+    }
+}
+
+/// Catalogues are read and written where they are lent: the library's call is the exported function.
+pub fn catalogue_read(by: By, file: &[u8], entries: &mut [Entry]) -> CatalogueAnswer {
+    let (f, n, e, k) = (file.as_ptr(), file.len(), entries.as_mut_ptr(), entries.len());
+    match by {
+        By::Library | By::Exported => unsafe { sparrowhem_catalogue_read(f, n, e, k) },
+        By::Rust => answered_on_file(baseline::catalogue_read(file, entries)),
+        By::C => unsafe { c_catalogue_read(f, n, e, k) },
+        By::Strong => unsafe { strong_catalogue_read(f, n, e, k) },
+    }
+}
+
+pub fn catalogue_write(by: By, c: &Catalogue, file: &mut [u8]) -> CatalogueAnswer {
+    let ((a, s), (w, m)) = ((c.arities.as_ptr(), c.arities.len()), (c.rows.as_ptr(), c.rows.len()));
+    let ((u, n), (l, k), (f, b)) = ((c.numbers.as_ptr(), c.numbers.len()), (c.lengths.as_ptr(), c.lengths.len()), (file.as_mut_ptr(), file.len()));
+    match by {
+        By::Library | By::Exported => unsafe { sparrowhem_catalogue_write(a, s, u, n, l, k, w, m, f, b) },
+        By::Rust => answered_on_file(baseline::catalogue_write(&c.arities, &c.numbers, &c.lengths, &c.rows, file)),
+        By::C => unsafe { c_catalogue_write(a, s, u, n, l, k, w, m, f, b) },
+        By::Strong => unsafe { strong_catalogue_write(a, s, u, n, l, k, w, m, f, b) },
     }
 }

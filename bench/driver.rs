@@ -8,6 +8,7 @@ mod agree;
 mod bars;
 mod baseline;
 mod calls;
+mod catalogues;
 mod lines;
 mod picture;
 mod rows;
@@ -42,13 +43,34 @@ fn time_all(quick: bool) -> Vec<Measured> {
         lines::ends(&mut bench, &rows);
     }
     lines::slowest(&mut bench);
+    time_catalogues(&mut bench);
     bench.measured
+}
+
+fn time_catalogues(bench: &mut Bench) {
+    agree::faulty_catalogues();
+    for shape in catalogues::SHAPES {
+        for symbols in catalogues::ALPHABETS {
+            for size in catalogues::SIZES {
+                let all = catalogues::Catalogues::new(shape, symbols, size);
+                agree::catalogues(&all);
+                lines::catalogues(bench, &all);
+            }
+        }
+    }
 }
 
 /// Writes what was measured; are all bars kept?
 fn tell(folder: &std::path::Path, about: &str, machine: &str, all: &[Measured]) -> bool {
     let write = |file: &str, text: String| std::fs::write(folder.join(file), text).expect("a file of results");
-    let said = [("machine", machine.to_string()), ("bars", bars::bars(all)), ("exported", bars::exported(all)), ("hops", picture::hops(all)), ("calls", picture::calls(all))];
+    let said = [
+        ("machine", machine.to_string()),
+        ("bars", bars::bars(all)),
+        ("exported", bars::exported(all)),
+        ("catalogue", bars::catalogue(all) + "\n" + &picture::files(all)),
+        ("hops", picture::hops(all)),
+        ("calls", picture::calls(all)),
+    ];
     let page = |page: String, (place, text): &(&str, String)| page.replace(&format!("{{{place}}}"), text.trim_end());
     write("BENCHMARKS.md", said.iter().fold(about.to_string(), page));
     write("benchmarks.csv", all.iter().fold(Measured::HEADER.to_string(), |text, m| text + &m.line()));

@@ -1,6 +1,8 @@
 //! The lines of the benchmark: which call is timed on what, and beside which yardstick.
 
-use crate::calls::{build, class_check, ends_by_hops, ends_by_list, find, pass, plain_match, replace, sheet, variables, Answer, Buffers, By, Laid};
+use crate::baseline::Entry;
+use crate::calls::{build, catalogue_read, catalogue_write, class_check, ends_by_hops, ends_by_list, find, pass, plain_match, replace, sheet, variables, Answer, Buffers, By, Laid};
+use crate::catalogues::Catalogues;
 use crate::rows::{alphabet, Programme, Rows, FIFTEEN, ONE, TWO};
 use crate::timing::Bench;
 
@@ -312,4 +314,13 @@ pub fn exported(bench: &mut Bench, rows: &Rows) {
         let mut edits = Edits::new(rows, 2, new);
         bench.exported(["sparrowhem_replace", &format!("{on} in the middle")], rows, |by, l, k| edits.there_and_back(by, l, k));
     }
+}
+
+/// Reading and writing the files of catalogues.
+pub fn catalogues(bench: &mut Bench, all: &Catalogues) {
+    let (mut entries, mut file) = (vec![Entry { programme: 0, start: 0, length: 0 }; 256], vec![0; 65536]);
+    let read = |by, l, k| catalogue_read(by, &all.at(l, k).1, &mut entries);
+    bench.four(["sparrowhem_catalogue_read", &all.on, all.shape], &all.lengths, read);
+    let write = |by, l, k| catalogue_write(by, &all.at(l, k).0, &mut file);
+    bench.four(["sparrowhem_catalogue_write", &all.on, all.shape], &all.lengths, write);
 }

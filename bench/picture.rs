@@ -9,9 +9,9 @@ fn is_variation(m: &Measured) -> bool {
 }
 
 /// The nanoseconds of each call on the longest rows, medians over their shapes, by each version.
-pub fn calls(all: &[Measured]) -> String {
+fn nanoseconds(all: &[Measured], on: impl Fn(&Measured) -> bool) -> String {
     let mut text = String::from("| call | on | library | Rust | C | strongest C |\n|---|---|---|---|---|---|\n");
-    let longest: Vec<&Measured> = all.iter().filter(|m| m.n >= 16384 - 8 && !m.of_rust().is_nan() && !is_variation(m)).collect();
+    let longest: Vec<&Measured> = all.iter().filter(|m| m.n >= 16384 - 8 && !m.of_rust().is_nan() && on(m)).collect();
     let mut seen: Vec<(&str, &str)> = Vec::new();
     for m in &longest {
         let key = (m.call.as_str(), m.on.as_str());
@@ -24,6 +24,14 @@ pub fn calls(all: &[Measured]) -> String {
         writeln!(text, "| {} | {} |{}", m.call, m.on, by.concat()).unwrap();
     }
     text
+}
+
+pub fn calls(all: &[Measured]) -> String {
+    nanoseconds(all, |m| !m.is_on_file() && !is_variation(m))
+}
+
+pub fn files(all: &[Measured]) -> String {
+    nanoseconds(all, Measured::is_on_file)
 }
 
 /// What hops cost on the longest row of each shape: the ends alone, the same with a list, and a whole build.

@@ -118,7 +118,7 @@ fn longest_fibonacci(n: usize) -> Vec<u16> {
     [vec![ONE; n - row.len()], row].concat()
 }
 
-fn row(shape: &str, n: usize, seed: u64) -> Vec<u16> {
+pub fn row(shape: &str, n: usize, seed: u64) -> Vec<u16> {
     let mut random = Random(seed);
     match shape {
         "chain" => grown(n, |_, _| ONE),

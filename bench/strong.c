@@ -779,3 +779,230 @@ answer strong_plain_match(const uint16_t *arities, size_t symbols, const uint16_
     if (UNLIKELY(position >= n)) return refused(17, position);
     return counted(plain_at(arities, row, n, pattern, k.told, position));
 }
+
+/* Catalogue files: numbers are bytes, the low one first, which on most machines is how they lie. */
+
+typedef struct {
+    uint32_t programme, start, length;
+} entry;
+
+typedef struct {
+    uint32_t refusal, programme;
+    uint64_t place, count;
+} catalogue_answer;
+
+enum { HEAD = 4, ENTRY = 12, MOST_ARITY = 15, MOST_PROGRAMMES = 256, MOST_FILE = 65536, STEP = 16 };
+enum { LOW_FIRST = __BYTE_ORDER__ == __ORDER_LITTLE_ENDIAN__ };
+
+/* An answer on a catalogue, with a programme where one has a fault. */
+static catalogue_answer told(answer a, uint32_t programme) {
+    return (catalogue_answer){(uint32_t)a.refusal, programme, a.place, a.count};
+}
+
+INLINE uint16_t number_at(const uint8_t *list, size_t i) {
+    uint16_t number;
+    memcpy(&number, list + 2 * i, sizeof number);
+    return LOW_FIRST ? number : (uint16_t)(number << 8 | number >> 8);
+}
+
+INLINE uint32_t wide_at(const uint8_t *bytes) { return number_at(bytes, 0) | (uint32_t)number_at(bytes, 1) << 16; }
+
+INLINE void put_wide(uint8_t *bytes, uint32_t v) {
+    for (size_t i = 0; i < 4; i++) bytes[i] = (uint8_t)(v >> 8 * i);
+}
+
+INLINE size_t entry_place(size_t k) { return HEAD + ENTRY * k; }
+
+INLINE entry entry_at(const uint8_t *file, size_t k) {
+    const uint8_t *at = file + entry_place(k);
+    return (entry){wide_at(at), wide_at(at + 4), wide_at(at + 8)};
+}
+
+/* Arities of one byte each, or of two. */
+COLD answer arities_fault(const uint8_t *arities, size_t symbols, size_t width) {
+    for (size_t s = 0; s < symbols; s++)
+        if ((width == 1 ? arities[s] : number_at(arities, s)) > MOST_ARITY) return refused(2, s);
+    return refused(3, 0);
+}
+
+COLD answer tree_fault(const uint8_t *arities, size_t symbols, const uint8_t *row, size_t n) {
+    if (n - 1 >= MOST) return size_fault(n, ROW);
+    size_t due = 1;
+    for (size_t i = 0; i < n; i++) {
+        if (due == i) return refused(9, i);
+        if (number_at(row, i) >= symbols) return refused(7, i);
+        due += arities[number_at(row, i)];
+    }
+    return refused(8, n);
+}
+
+INLINE bool are_arities(const uint8_t *arities, size_t symbols) {
+    uint8_t bits = 0, leaf = 0;
+    for (size_t s = 0; s < symbols; s++) {
+        bits |= arities[s];
+        leaf |= arities[s] == 0;
+    }
+    return bits <= MOST_ARITY && leaf;
+}
+
+INLINE bool all_below(const uint8_t *row, size_t n, size_t symbols) {
+    uint16_t largest = 0;
+    for (size_t i = 0; i < n; i++) largest = largest < number_at(row, i) ? number_at(row, i) : largest;
+    return largest < symbols;
+}
+
+/* In strides that do not wait for each other; the last one reaches back. */
+INLINE bool are_symbols(const uint8_t *row, size_t n, size_t symbols) {
+    if (n < STRIDE) return all_below(row, n, symbols);
+    for (size_t i = 0; i + STRIDE < n; i += STRIDE)
+        if (UNLIKELY(!all_below(row + 2 * i, STRIDE, symbols))) return false;
+    return all_below(row + 2 * (n - STRIDE), STRIDE, symbols);
+}
+
+/* Is it a row? As is_row, in steps: where as many symbols are still due as the step has, the tree cannot end within it, and the arities
+ * are only added up. */
+APART bool is_tree(const uint8_t *restrict arities, size_t symbols, const uint8_t *restrict row, size_t n) {
+    size_t due = 1, i = 0;
+    if (UNLIKELY(n - 1 >= MOST || !are_symbols(row, n, symbols))) return false;
+    for (; i + STEP <= n; i += STEP) {
+        if (due - i >= STEP) {
+            uint32_t sum = 0; /* narrower, so that it is added up beside */
+            for (size_t j = 0; j < STEP; j++) sum += arities[number_at(row, i + j)];
+            due += sum;
+            continue;
+        }
+        for (size_t j = 0; j < STEP; j++) {
+            if (UNLIKELY(due == i + j)) return false;
+            due += arities[number_at(row, i + j)];
+        }
+    }
+    for (; i < n; i++) {
+        if (UNLIKELY(due == i)) return false;
+        due += arities[number_at(row, i)];
+    }
+    return due == n;
+}
+
+/* Refusals 67 to 69, where one of them is. */
+COLD answer contents_fault(const uint8_t *file, size_t bytes, size_t n, size_t first) {
+    uint64_t least = 0, next = first;
+    for (size_t k = 0; k < n; k++) {
+        uint64_t programme = entry_at(file, k).programme;
+        if (programme < least) return refused(67, entry_place(k));
+        least = programme + 1;
+    }
+    for (size_t k = 0; k < n; k++) {
+        entry e = entry_at(file, k);
+        if (e.start != next || (next += 2 * (uint64_t)e.length) > bytes) return refused(68, entry_place(k));
+    }
+    return refused(69, next);
+}
+
+/* If each row starts where the one before ends and the last ends the file, none goes past it: no end has to be looked at. */
+INLINE bool are_contents(const uint8_t *file, size_t bytes, size_t n, size_t first) {
+    uint64_t least = 0, next = first, wrong = 0;
+    for (size_t k = 0; k < n; k++) {
+        entry e = entry_at(file, k);
+        wrong |= (e.start ^ next) | (e.programme < least);
+        least = (uint64_t)e.programme + 1;
+        next += 2 * (uint64_t)e.length;
+    }
+    return !(wrong | (next ^ bytes));
+}
+
+/* Refusals 66, 65, 88 and 1, where one of them is. */
+COLD answer head_fault(const uint8_t *file, size_t bytes) {
+    if (bytes > MOST_FILE) return refused(66, bytes);
+    if (bytes < HEAD) return refused(65, bytes);
+    size_t n = number_at(file, 0), symbols = number_at(file, 1);
+    if (bytes < entry_place(n) + symbols) return refused(65, bytes);
+    return n > MOST_PROGRAMMES ? refused(88, n) : refused(1, symbols);
+}
+
+catalogue_answer strong_catalogue_read(const uint8_t *file, size_t bytes, entry *entries, size_t count) {
+    if (UNLIKELY(bytes - HEAD > MOST_FILE - HEAD)) return told(head_fault(file, bytes), 0);
+    size_t n = number_at(file, 0), symbols = number_at(file, 1), next = entry_place(n) + symbols;
+    if (UNLIKELY(bytes < next || n > MOST_PROGRAMMES || symbols - 1 >= MOST_SYMBOLS)) return told(head_fault(file, bytes), 0);
+    const uint8_t *arities = file + entry_place(n);
+    if (UNLIKELY(!are_arities(arities, symbols))) return told(arities_fault(arities, symbols, 1), 0);
+    if (UNLIKELY(!are_contents(file, bytes, n, next))) return told(contents_fault(file, bytes, n, next), 0);
+    for (size_t k = 0; k < n; k++) {
+        size_t length = wide_at(file + entry_place(k) + 8);
+        if (UNLIKELY(!is_tree(arities, symbols, file + next, length)))
+            return told(tree_fault(arities, symbols, file + next, length), wide_at(file + entry_place(k)));
+        next += 2 * length;
+    }
+    if (UNLIKELY(count < n)) return told(refused(19, n), 0);
+    if (LOW_FIRST && n > 0) memcpy(entries, file + HEAD, ENTRY * n);
+    for (size_t k = 0; !LOW_FIRST && k < n; k++) entries[k] = entry_at(file, k);
+    return told(counted(n), 0);
+}
+
+/* Are they arities, lent as numbers? They become a byte each. */
+INLINE bool narrow(const uint8_t *restrict list, size_t symbols, uint8_t *restrict arities) {
+    uint16_t bits = 0, leaf = 0;
+    for (size_t s = 0; s < symbols; s++) {
+        uint16_t arity = number_at(list, s);
+        bits |= arity;
+        leaf |= arity == 0;
+        arities[s] = (uint8_t)arity;
+    }
+    return bits <= MOST_ARITY && leaf;
+}
+
+INLINE bool rise(const uint32_t *numbers, size_t n) {
+    uint32_t wrong = 0;
+    for (size_t k = 1; k < n; k++) wrong |= numbers[k] <= numbers[k - 1];
+    return !wrong;
+}
+
+COLD answer rising_fault(const uint32_t *numbers) {
+    size_t k = 1;
+    while (numbers[k] > numbers[k - 1]) k++;
+    return refused(67, k);
+}
+
+/* Refusals 67, 68 and 66, for rows of m symbols and a file of so many bytes. */
+INLINE answer check_lists(const uint32_t *numbers, size_t n, const uint32_t *lengths, size_t many, size_t m, size_t bytes) {
+    if (UNLIKELY(!rise(numbers, n))) return rising_fault(numbers);
+    uint64_t sum = 0;
+    for (size_t k = 0; k < many; k++) sum += lengths[k];
+    if (UNLIKELY(many != n || sum != m)) return refused(68, m);
+    return UNLIKELY(bytes > MOST_FILE) ? refused(66, bytes) : counted(0);
+}
+
+/* Head and contents. */
+INLINE void write_front(uint8_t *restrict file, size_t symbols, const uint32_t *restrict numbers, const uint32_t *restrict lengths,
+                        size_t n) {
+    uint32_t next = (uint32_t)(entry_place(n) + symbols);
+    put_wide(file, (uint32_t)(n | symbols << 16));
+    for (size_t k = 0; k < n; k++) {
+        uint8_t *at = file + entry_place(k);
+        put_wide(at, numbers[k]);
+        put_wide(at + 4, next);
+        put_wide(at + 8, lengths[k]);
+        next += 2 * lengths[k];
+    }
+}
+
+catalogue_answer strong_catalogue_write(const uint8_t *list, size_t list_bytes, const uint32_t *numbers, size_t n,
+                                        const uint32_t *lengths, size_t many, const uint8_t *rows, size_t rows_bytes, uint8_t *file,
+                                        size_t room) {
+    uint8_t arities[MOST_SYMBOLS];
+    size_t symbols = list_bytes / 2, m = rows_bytes / 2, first = entry_place(n) + symbols, next = 0;
+    if (UNLIKELY(n > MOST_PROGRAMMES)) return told(refused(88, n), 0);
+    if (UNLIKELY(symbols - 1 >= MOST_SYMBOLS)) return told(refused(1, symbols), 0);
+    if (UNLIKELY(!narrow(list, symbols, arities))) return told(arities_fault(list, symbols, 2), 0);
+    answer a = check_lists(numbers, n, lengths, many, m, first + 2 * m);
+    if (UNLIKELY(a.refusal)) return told(a, 0);
+    for (size_t k = 0; k < n; k++) {
+        if (UNLIKELY(!is_tree(arities, symbols, rows + 2 * next, lengths[k])))
+            return told(tree_fault(arities, symbols, rows + 2 * next, lengths[k]), numbers[k]);
+        next += lengths[k];
+    }
+    if (UNLIKELY(room < first + 2 * m)) return told(refused(19, first + 2 * m), 0);
+    write_front(file, symbols, numbers, lengths, n);
+    memcpy(file + entry_place(n), arities, symbols);
+    if (m > 0) memcpy(file + first, rows, 2 * m);
+    return told(counted(first + 2 * m), 0);
+}

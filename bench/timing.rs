@@ -2,6 +2,7 @@
 
 use crate::calls::{Answer, By, ALL};
 use crate::rows::Rows;
+use std::fmt::Debug;
 use std::hint::black_box;
 use std::time::Instant;
 
@@ -47,6 +48,11 @@ impl Measured {
         self.of[YARDSTICK]
     }
 
+    /// Is it about the file of a catalogue?
+    pub fn is_on_file(&self) -> bool {
+        self.call.contains("catalogue")
+    }
+
     pub fn line(&self) -> String {
         let number = |x: f64, places: usize| if x.is_nan() { String::new() } else { format!("{x:.places$}") };
         let names = [&self.call, &self.on, &self.shape].map(String::clone);
@@ -78,7 +84,7 @@ pub fn medians(turns: &[Vec<Measured>]) -> Vec<Measured> {
 }
 
 /// Nanoseconds of one of several calls.
-fn timed(calls: std::ops::Range<usize>, mut call: impl FnMut(usize) -> Answer) -> f64 {
+fn timed<T>(calls: std::ops::Range<usize>, mut call: impl FnMut(usize) -> T) -> f64 {
     let (began, many) = (Instant::now(), calls.len());
     for k in calls {
         black_box(call(k));
@@ -104,7 +110,12 @@ impl Bench {
         mut yardstick: impl FnMut(usize, usize) -> Answer,
     ) {
         let call = |column, l, k| if column == YARDSTICK { yardstick(l, k) } else { f(black_box(ALL[column]), l, k) };
-        self.measure(names, rows, &[0, 1, YARDSTICK, 2, 3], call);
+        self.measure([names[0], names[1], rows.shape], &rows.lengths, &[0, 1, YARDSTICK, 2, 3], call);
+    }
+
+    /// The same of a call that has no yardstick.
+    pub fn four<T: PartialEq + Debug>(&mut self, names: [&str; 3], lengths: &[usize], mut f: impl FnMut(By, usize, usize) -> T) {
+        self.measure(names, lengths, &[0, 1, 2, 3], |column, l, k| f(black_box(ALL[column]), l, k));
     }
 
     /// Times an exported function, in the library's column. The yardstick is the inner call.
@@ -114,20 +125,25 @@ impl Bench {
 
     /// Times something of the library's, in its column, and beside it the yardstick.
     pub fn pair(&mut self, names: [&str; 2], rows: &Rows, mut f: impl FnMut(bool, usize, usize) -> Answer) {
-        self.measure(names, rows, &[0, YARDSTICK], |column, l, k| f(column == YARDSTICK, l, k));
+        self.measure([names[0], names[1], rows.shape], &rows.lengths, &[0, YARDSTICK], |column, l, k| f(column == YARDSTICK, l, k));
     }
 
     /// All columns are timed in every round, one after the other, and each share is the median of the shares in the rounds: what
     /// slows the machine down for a while slows all. Whoever meets rows first brings them near for the others, so the columns take
     /// turns in going first. A processor that has just met a row by the same code knows its branches by heart: so no column meets
     /// the rows of a round before it is timed on them, and what they answer is compared behind that.
-    fn measure(&mut self, names: [&str; 2], rows: &Rows, columns: &[usize], mut call: impl FnMut(usize, usize, usize) -> Answer) {
-        let lengths = 0..rows.lengths.len();
+    fn measure<T: PartialEq + Debug>(
+        &mut self,
+        names: [&str; 3],
+        lengths: &[usize],
+        columns: &[usize],
+        mut call: impl FnMut(usize, usize, usize) -> T,
+    ) {
         let mut once = |l| (0..3).map(|k| timed(0..2, |_| call(0, l, k))).fold(f64::INFINITY, f64::min);
-        let once: Vec<f64> = lengths.clone().map(&mut once).collect();
+        let once: Vec<f64> = (0..lengths.len()).map(&mut once).collect();
         let mut times = vec![[(); COLUMNS].map(|()| vec![f64::NAN; self.rounds]); lengths.len()];
         for round in 0..self.rounds {
-            for l in lengths.clone() {
+            for l in 0..lengths.len() {
                 let batch = (self.batch / once[l].max(50.0)).clamp(1.0, 4_000.0) as usize;
                 let calls = round * batch..(round + 1) * batch;
                 for &column in columns.iter().cycle().skip(round % columns.len()).take(columns.len()) {
@@ -140,19 +156,19 @@ impl Bench {
                 }
             }
         }
-        for l in lengths {
-            self.tell(names, rows, l, &times);
+        for l in 0..lengths.len() {
+            self.tell(names, lengths, l, &times);
         }
     }
 
-    fn tell(&mut self, [call, on]: [&str; 2], rows: &Rows, l: usize, times: &[[Vec<f64>; COLUMNS]]) {
+    fn tell(&mut self, names: [&str; 3], lengths: &[usize], l: usize, times: &[[Vec<f64>; COLUMNS]]) {
         let share = |f: &dyn Fn(usize) -> f64| median((0..self.rounds).map(f).collect());
-        let each = |l: usize, round: usize| times[l][0][round] / rows.lengths[l] as f64;
+        let each = |l: usize, round: usize| times[l][0][round] / lengths[l] as f64;
         let ns = times[l].clone().map(median);
         let of = [0, 1, 2, 3, 4].map(|column| share(&|round| times[l][0][round] / times[l][column][round]));
         let growth = if l == 0 { f64::NAN } else { share(&|round| each(l, round) / each(l - 1, round)) };
-        let [call, on, shape] = [call, on, rows.shape].map(str::to_string);
-        let measured = Measured { call, on, shape, n: rows.lengths[l], ns, of, growth };
+        let [call, on, shape] = names.map(str::to_string);
+        let measured = Measured { call, on, shape, n: lengths[l], ns, of, growth };
         eprint!("{}", measured.line());
         self.measured.push(measured);
     }

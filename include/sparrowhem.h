@@ -1,6 +1,7 @@
 /*
 ** sparrowhem.h: build, find, one pattern or a sheet of them, and replace, in
-** programme trees that are kept as rows of symbols.
+** programme trees that are kept as rows of symbols; and the file in which
+** stations exchange them.
 **
 ** ALPHABET, ROW, TABLE, CLASSES
 **
@@ -49,20 +50,55 @@
 **                0 0 1
 **                13 1 0        refusal 13 at place 1: 9 is no symbol
 **
+** CATALOGUE FILE
+**
+** A catalogue is an alphabet and up to 256 programmes over it, each with a
+** NUMBER of 32 bits and a row; the numbers rise strictly.  Its file has at
+** most 65536 bytes.  All numbers in it have the low byte first:
+**
+**     head       2 bytes    n, how many programmes
+**                2 bytes    s, how many symbols the alphabet has
+**     contents   12 bytes   an ENTRY for each programme: its number, the byte
+**                           where its row starts, counted from the begin of
+**                           the file, its length in symbols; 4 bytes each
+**     arities    1 byte     for each symbol of the alphabet
+**     rows       2 bytes    for each symbol of each row, in the order of the
+**                           contents, without gaps; the last ends the file
+**
+** Each catalogue has one file: two are the same exactly if their files are.
+** The calls open nothing and store nothing: a file is bytes that the caller
+** lends.  docs/CATALOGUE-FILE.md is for somebody who writes another reader.
+**
+** A file that was read is gone on with as it stands.  The row of entry e is
+** lent to build, find and sheet in its place, `file + e.start, 2 * e.length`.
+** It may begin at an odd address.  Replace changes the row that it is lent, so
+** it gets a copy.  Only the arities have to be widened, to two bytes each:
+**
+**     n = sparrowhem_get(file, 0);
+**     s = sparrowhem_get(file, 1);
+**     for( k=0; k<s; k++ ){
+**       sparrowhem_put(arities, k, file[4 + 12*n + k]);
+**     }
+**
 ** NUMBERS ARE LENT AS BYTES
 **
-** Every list of numbers (alphabet, row, table, classes, pattern or patterns,
-** lengths, replacement, each output) is lent as a pointer and a count of
-** BYTES.  Each number takes two bytes, the low one first, on every machine.
-** An odd last byte is neither counted nor written: 17 bytes are 8 numbers.
-** The bytes may begin at any address, odd ones too.  A null pointer with
-** count 0 is an empty list.  Lengths, positions and places count NUMBERS, not
-** bytes.
+** Every list of numbers (alphabet, row or rows, table, classes, pattern or
+** patterns, a sheet's lengths, replacement, each output) is lent as a pointer
+** and a count of BYTES.  Each number takes two bytes, the low one first, on
+** every machine.  An odd last byte is neither counted nor written: 17 bytes
+** are 8 numbers.  The bytes may begin at any address, odd ones too.  A null
+** pointer with count 0 is an empty list.  Lengths, positions and places count
+** NUMBERS, not bytes; only a file's length and places in a file count bytes.
 **
 ** On a little-endian machine an array of uint16_t is such a list as it
 ** stands: `(const uint8_t *)row, 2 * n` lends its first n numbers, and
 ** `(uint8_t *)table, 2 * n` lends it to be written.  Elsewhere
 ** sparrowhem_get and sparrowhem_put read and write a number of a list.
+**
+** Three lists of the calls on catalogue files are wider: the records, and the
+** programmes' numbers and lengths that are written.  They are arrays of
+** sparrowhem_entry and of uint32_t, the machine's own numbers, and are lent
+** with a count of ELEMENTS.  A null pointer with count 0 is empty there too.
 **
 ** EVERY INPUT IS ANSWERED
 **
@@ -73,9 +109,10 @@
 **
 ** WHAT THE CALLER SEES TO
 **
-** Each pointer leads to at least as many bytes as its count says.  A buffer
-** that a call writes overlaps no other buffer of that call; lists that are
-** only read may overlap or be the same.
+** Each pointer leads to at least as many bytes, or elements, as its count
+** says.  One to elements is aligned as C has it.  A buffer that a call writes
+** overlaps no other buffer of that call; lists that are only read may overlap
+** or be the same.
 **
 ** OWNERSHIP AND THREADS
 **
@@ -86,8 +123,8 @@
 **
 ** STACK
 **
-** sparrowhem_build works on the lent bytes themselves, the others on copies on
-** the stack.  They need less than
+** sparrowhem_build and the two calls on catalogue files work on the lent bytes
+** themselves, the others on copies on the stack.  They need less than
 **
 **     sparrowhem_build    6 KiB for any row, whether it answers or refuses: a
 **                         task with 8 KiB can call it
@@ -97,6 +134,14 @@
 **                         there are not too many lengths
 **     sparrowhem_replace  228 KiB, 12 KiB for rows of at most 256 symbols, if
 **                         what replaces a part has at most 256 too
+**     sparrowhem_catalogue_read, sparrowhem_catalogue_write
+**                         3 KiB for any file, whether they answer or refuse
+**
+** SINCE VERSION 2.1
+**
+** sparrowhem_catalogue_read and sparrowhem_catalogue_write are new, and with
+** them their two structs, and the refusals 65 to 69 and 88.  Nothing else has
+** changed: what was written for 2.1 compiles and runs as it did.
 **
 ** SINCE VERSION 2.0
 **
@@ -126,18 +171,21 @@ extern "C" {
 ** The version: as a string, and as a number that grows with it, a million for
 ** the first part, a thousand for the second, one for the third.
 */
-#define SPARROWHEM_VERSION        "2.1.0"
-#define SPARROWHEM_VERSION_NUMBER 2001000
+#define SPARROWHEM_VERSION        "2.2.0"
+#define SPARROWHEM_VERSION_NUMBER 2002000
 
 /*
 ** Limits: symbols in an alphabet, an arity, numbers in a row or in a
-** replacement, numbers in a pattern, patterns in a sheet.
+** replacement, numbers in a pattern, patterns in a sheet, programmes in a
+** catalogue, bytes in its file.
 */
-#define SPARROWHEM_MOST_SYMBOLS 1024
-#define SPARROWHEM_MOST_ARITY   15
-#define SPARROWHEM_MOST_ROW     16384
-#define SPARROWHEM_MOST_PATTERN 256
-#define SPARROWHEM_MOST_SHEET   64
+#define SPARROWHEM_MOST_SYMBOLS    1024
+#define SPARROWHEM_MOST_ARITY      15
+#define SPARROWHEM_MOST_ROW        16384
+#define SPARROWHEM_MOST_PATTERN    256
+#define SPARROWHEM_MOST_SHEET      64
+#define SPARROWHEM_MOST_PROGRAMMES 256
+#define SPARROWHEM_MOST_FILE       65536
 
 /*
 ** How many numbers a sheet's result has for each pattern: refusal or 0, place
@@ -167,7 +215,8 @@ extern "C" {
 ** a number that stands behind the tree's end is 9, 15 or 29, whatever it is.
 **
 ** A sheet is never refused with 11 to 15: these stand in the result of the
-** pattern that they are about.
+** pattern that they are about.  The two calls on catalogue files have an order
+** of their own, which stands with them.
 */
 enum {
   SPARROWHEM_ANSWERED          = 0,
@@ -209,7 +258,9 @@ enum {
   SPARROWHEM_TOO_LONG          = 18,
   /* there are more matches than places in the output: the number of matches;
   ** in a sheet also, and before that, there are fewer places for the results
-  ** than three a pattern: three times the number of the patterns */
+  ** than three a pattern: three times the number of the patterns; of a
+  ** catalogue, there are fewer records than programmes: the number of the
+  ** programmes, or fewer bytes than the file takes: the file's length */
   SPARROWHEM_OUTPUT_SHORT      = 19,
 
   /* as 4, 5, 7, 8, 9, for the replacement */
@@ -226,7 +277,25 @@ enum {
   SPARROWHEM_SHEET_SIZE        = 63,
   /* the lengths of a sheet do not add up to the numbers lent as patterns: how
   ** many numbers are lent as patterns */
-  SPARROWHEM_SHEET_SUM         = 64
+  SPARROWHEM_SHEET_SUM         = 64,
+
+  /* the file is too short for its head, contents and arities: its length */
+  SPARROWHEM_FILE_SHORT        = 65,
+  /* the file is over 65536 bytes long, or would be: its length */
+  SPARROWHEM_FILE_LONG         = 66,
+  /* a programme's number is not above the one before it: read, the first byte
+  ** of its entry; write, its place among the numbers */
+  SPARROWHEM_NUMBER_ORDER      = 67,
+  /* read: a row does not start where the one before it ended, the first not
+  ** behind the arities, or it goes past the end of the file: the first byte of
+  ** its entry; write: the lengths are not as many as the numbers, or do not
+  ** add up to the symbols of the rows: how many symbols the rows have */
+  SPARROWHEM_ROW_BOUNDS        = 68,
+  /* bytes are left over behind the last row, or behind the arities where there
+  ** is no programme: the first of these bytes */
+  SPARROWHEM_FILE_EXTRA        = 69,
+  /* there are over 256 programmes: how many */
+  SPARROWHEM_PROGRAMMES_OVER   = 88
 };
 
 /*
@@ -293,6 +362,22 @@ static inline const char *sparrowhem_refusal_text(uint32_t refusal){
     case SPARROWHEM_SHEET_SUM:
       return "the lengths of the sheet do not add up to the numbers lent as "
              "patterns";
+    case SPARROWHEM_FILE_SHORT:
+      return "the file is too short for its head, its contents and its "
+             "arities";
+    case SPARROWHEM_FILE_LONG:
+      return "the file is longer than 65,536 bytes, or would be";
+    case SPARROWHEM_NUMBER_ORDER:
+      return "a programme's number is not above the one before it";
+    case SPARROWHEM_ROW_BOUNDS:
+      return "a row does not start at the next free byte of the file, or goes "
+             "past its end; or the lengths are not as many as the numbers, or "
+             "do not add up to the rows";
+    case SPARROWHEM_FILE_EXTRA:
+      return "bytes are left over behind the last row, or behind the arities "
+             "where there is no programme";
+    case SPARROWHEM_PROGRAMMES_OVER:
+      return "there are more than 256 programmes";
     default:
       return "no call gives this number";
   }
@@ -432,6 +517,103 @@ sparrowhem_answer sparrowhem_replace(
 );
 
 /*
+** A record: an entry of a catalogue file's contents, 12 bytes.
+**
+**   programme  the programme's number
+**   start      the byte of the file where its row starts
+**   length     how many symbols the row has
+*/
+typedef struct {
+  uint32_t programme;
+  uint32_t start;
+  uint32_t length;
+} sparrowhem_entry;
+
+/*
+** An answer on a catalogue file: 24 bytes, returned by value.
+**
+**              answered                       refused
+**   refusal    0                              the refusal's number
+**   programme  0                              with 4, 5, 7, 8, 9 the number of
+**                                             the programme; else 0
+**   place      0                              the refusal's place; with these
+**                                             five in that programme's row
+**   count      read: how many programmes;     0
+**              write: the file's length
+**
+** A programme may have the number 0: whether a row is at fault is told by the
+** refusal, not by `programme`.
+*/
+typedef struct {
+  uint32_t refusal;
+  uint32_t programme;
+  uint64_t place;
+  uint64_t count;
+} sparrowhem_catalogue;
+
+/*
+** Catalogue read: checks all of a file, and writes the entries of its contents
+** to the front of `entries`.
+**
+** `count` is how many programmes there are, and so how many records were
+** written.  Records behind them stay.  No row is copied: it is reached through
+** its record, as said above, and nothing has to be checked before.  The whole
+** file is lent, and not a byte more.
+**
+** Refuses with
+**
+**     66, 65, 88        for the file's size and its head
+**     1, 2, 3           for the alphabet; an arity of 16 to 255 is a 2
+**     67, 68, 69        for the contents: every entry is looked at for 67
+**                       before any is for 68
+**     4, 5, 7, 8, 9     for the first faulty row, in the order of the contents
+**     19                for the records
+**
+** and in this order.  256 records are always enough; for a file without
+** programmes none is needed.
+*/
+sparrowhem_catalogue sparrowhem_catalogue_read(
+  const uint8_t *file,       size_t file_bytes,
+  sparrowhem_entry *entries, size_t entries_count
+);
+
+/*
+** Catalogue write: writes the file of a catalogue to the front of `file`.
+**
+** `numbers` has the programmes' numbers, strictly rising, `lengths` how many
+** symbols the row of each has, in the same order, and `rows` has the rows end
+** to end, with nothing between them.  Where each row starts is worked out.
+** `arities` is the alphabet as every call has it, two bytes a symbol, and so
+** are the rows.
+**
+** `count` is the file's length: 4 bytes, 12 for each programme, 1 for each
+** symbol of the alphabet, 2 for each symbol of the rows.  Bytes of the buffer
+** behind it stay.
+**
+** Refuses with
+**
+**     88                for the programmes: how many numbers there are
+**     1, 2, 3           for the alphabet
+**     67                for the numbers
+**     68                for the lengths; their sum is never cut off, and can be
+**                       over 2^32
+**     66                for the length of the file
+**     4, 5, 7, 8, 9     for the first faulty row; a length of 0 is 4, and one
+**                       over 16384 is 5
+**     19                for the buffer
+**
+** and in this order.  65536 bytes are always enough.  A file that was written
+** is never refused by read, but for 19.
+*/
+sparrowhem_catalogue sparrowhem_catalogue_write(
+  const uint8_t *arities,  size_t arities_bytes,
+  const uint32_t *numbers, size_t numbers_count,
+  const uint32_t *lengths, size_t lengths_count,
+  const uint8_t *rows,     size_t rows_bytes,
+  uint8_t *file,           size_t file_bytes
+);
+
+/*
 ** EXAMPLE
 **
 ** The row 3 0 0 over the alphabet 0 0 1 2, and the places of all leaves 0:
@@ -454,8 +636,8 @@ sparrowhem_answer sparrowhem_replace(
 **     }
 **
 ** After this a.count is 2, and sparrowhem_get(out, 0) and (out, 1) are the
-** positions 1 and 2.  host/example.c is a longer one, and host/morning.c one
-** of a sheet.
+** positions 1 and 2.  host/example.c is a longer one, host/morning.c one of a
+** sheet, and host/exchange.c one of a catalogue file.
 */
 
 #ifdef __cplusplus

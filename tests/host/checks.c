@@ -11,8 +11,8 @@
 enum { GUARD = 33, BIG = 16384, SHEET = SPARROWHEM_MOST_SHEET };
 
 /* Most cases have room in a part of the arena; `reach` is how much of it the case takes. */
-enum { SMALL = 1 << 18, WIDE = 1 << 22 };
-static uint8_t arena[WIDE] __attribute__((aligned(2))), expected[WIDE];
+enum { SMALL = 1 << 18, MIDDLE = 1 << 19, WIDE = 1 << 22 };
+static uint8_t arena[WIDE] __attribute__((aligned(4))), expected[WIDE];
 static size_t used, reach;
 static unsigned passed, failed;
 
@@ -636,6 +636,503 @@ static void classes_far_away(void) {
     check("the first of a kind is gone", replace(a, w, t, c, 8, v, 1), 0, -2, 0, 6);
 }
 
+/* ---- catalogue files ---- */
+
+enum { PROGRAMMES = SPARROWHEM_MOST_PROGRAMMES, FILE_MOST = SPARROWHEM_MOST_FILE };
+
+/* Numbers of 32 bits, or records, which stand aligned, with guard bytes round them as round all that is lent. */
+typedef struct {
+    uint32_t *at;
+    size_t count;
+} words;
+typedef struct {
+    sparrowhem_entry *at;
+    size_t count;
+} records;
+
+static const words no_words = {0, 0};
+static const records no_records = {0, 0};
+
+/* Lends `bytes` bytes at an address that is a multiple of 4: those that are given first. */
+static uint8_t *lend_aligned(const void *given, size_t count, size_t bytes) {
+    used += (4 - (used + GUARD) % 4) % 4;
+    lent list = lend_bytes(0, 0, bytes);
+    if (count) memcpy(list.at, given, count);
+    used += used & 1;
+    return list.at;
+}
+
+static words lend_words(const uint32_t *numbers, size_t count) {
+    words list = {(uint32_t *)(void *)lend_aligned(numbers, 4 * count, 4 * count), count};
+    return list;
+}
+
+static records lend_records(size_t count) {
+    records list = {(sparrowhem_entry *)(void *)lend_aligned(0, 0, 12 * count), count};
+    return list;
+}
+
+/* A file, or a buffer for one, at an odd address. */
+static lent lend_file(const uint8_t *file, size_t count, size_t bytes) {
+    lent list = lend_bytes(0, 0, bytes);
+    if (count) memcpy(list.at, file, count);
+    return list;
+}
+
+static void expect_bytes(const void *at, const void *bytes, size_t count) {
+    if (count) memcpy(expected + ((const uint8_t *)at - arena), bytes, count);
+}
+
+static void check_catalogue(const char *name, sparrowhem_catalogue c, unsigned refusal, uint32_t programme, uint64_t place, uint64_t count) {
+    int right = c.refusal == refusal && c.programme == programme && c.place == place && c.count == count;
+    int same = memcmp(arena, expected, reach) == 0;
+    check_that(name, right && same);
+    if (right && same) return;
+    printf("  refusal %u programme %u place %llu count %llu%s\n", (unsigned)c.refusal, (unsigned)c.programme, (unsigned long long)c.place,
+        (unsigned long long)c.count, same ? "" : ", and other bytes than expected");
+}
+
+static sparrowhem_catalogue catalogue_read(lent f, records e) {
+    return sparrowhem_catalogue_read(f.at, f.bytes, e.at, e.count);
+}
+
+static sparrowhem_catalogue catalogue_write(lent a, words n, words l, lent w, lent f) {
+    return sparrowhem_catalogue_write(a.at, a.bytes, n.at, n.count, l.at, l.count, w.at, w.bytes, f.at, f.bytes);
+}
+
+/* The worked catalogue, and its file as docs/CATALOGUE-FILE.md has it. */
+static const uint32_t NUMBERS[] = {7, 900}, LENGTHS[] = {9, 1};
+static const unsigned ROWS[] = {4, 3, 0, 0, 2, 1, 3, 0, 0, 1};
+static const sparrowhem_entry ENTRIES[] = {{7, 33, 9}, {900, 51, 1}};
+static const uint8_t WORKED[] = {2, 0, 5, 0, 7, 0, 0, 0, 33, 0, 0, 0, 9, 0, 0, 0, 0x84, 3, 0, 0, 51, 0, 0, 0, 1, 0, 0, 0, 0, 0, 1, 2, 3,
+    4, 0, 3, 0, 0, 0, 0, 0, 2, 0, 1, 0, 3, 0, 0, 0, 0, 0, 1, 0};
+enum { ENTRY_0 = 4, ENTRY_1 = 16, ARITIES_AT = 28, ROW_0 = 33, ROW_1 = 51, WORKED_BYTES = sizeof WORKED };
+
+/* Where an entry has its three numbers. */
+enum { NUMBER = 0, START = 4, LENGTH = 8 };
+
+static void put_word(uint8_t *at, uint32_t number) {
+    for (int i = 0; i < 4; i++) at[i] = (uint8_t)(number >> 8 * i);
+}
+
+/* Reads a file with more room for records than it needs: it is refused. */
+static void unread(const char *name, const uint8_t *file, size_t bytes, unsigned refusal, uint32_t programme, uint64_t place) {
+    start();
+    lent f = lend_file(file, bytes, bytes);
+    records e = lend_records(3);
+    ready();
+    check_catalogue(name, catalogue_read(f, e), refusal, programme, place, 0);
+    check_catalogue(name, catalogue_read(f, no_records), refusal, programme, place, 0);
+}
+
+/* The worked file, `bytes` of it, with two other numbers of 32 bits in it; or with one, and another as it is. */
+#define AS_IS ENTRY_0, 7
+static void unread_worked(const char *name, size_t bytes, size_t at, uint32_t number, size_t also, uint32_t other, unsigned refusal,
+    uint32_t programme, uint64_t place) {
+    uint8_t file[WORKED_BYTES + 8];
+    memset(file, 0, sizeof file);
+    memcpy(file, WORKED, WORKED_BYTES);
+    put_word(file + at, number);
+    put_word(file + also, other);
+    unread(name, file, bytes, refusal, programme, place);
+}
+
+/* The same with one other byte. */
+static void unread_byte(const char *name, size_t bytes, size_t at, uint8_t byte, unsigned refusal, uint32_t programme, uint64_t place) {
+    uint8_t file[WORKED_BYTES + 8];
+    memset(file, 0, sizeof file);
+    memcpy(file, WORKED, WORKED_BYTES);
+    file[at] = byte;
+    unread(name, file, bytes, refusal, programme, place);
+}
+
+/* The worked file in records with just room, with more, and with too little; cut at every byte; with each of its numbers wrong. */
+static void catalogue_reads(void) {
+    for (size_t more = 0; more < 4; more++) {
+        start();
+        lent f = lend_file(WORKED, WORKED_BYTES, WORKED_BYTES);
+        records e = lend_records(2 + more);
+        ready();
+        expect_bytes(e.at, ENTRIES, sizeof ENTRIES);
+        check_catalogue("read", catalogue_read(f, e), 0, 0, 0, 2);
+        check_catalogue("read, over what stands there", catalogue_read(f, e), 0, 0, 0, 2);
+        static const sparrowhem_entry widest[] = {{0, 33, 9}, {0xFFFFFFFF, 51, 1}};
+        put_word(f.at + ENTRY_0, 0);
+        put_word(f.at + ENTRY_1, 0xFFFFFFFF);
+        ready();
+        expect_bytes(e.at, widest, sizeof widest);
+        check_catalogue("read, the least number and the greatest", catalogue_read(f, e), 0, 0, 0, 2);
+    }
+    start();
+    lent f = lend_file(WORKED, WORKED_BYTES, WORKED_BYTES);
+    records e = lend_records(1);
+    ready();
+    check_catalogue("read 19, one record", catalogue_read(f, e), SPARROWHEM_OUTPUT_SHORT, 0, 2, 0);
+    check_catalogue("read 19, no record", catalogue_read(f, no_records), SPARROWHEM_OUTPUT_SHORT, 0, 2, 0);
+    check_catalogue("read 65, nothing at all", catalogue_read(none, no_records), SPARROWHEM_FILE_SHORT, 0, 0, 0);
+
+    for (size_t bytes = 0; bytes < WORKED_BYTES; bytes++) {
+        unsigned refusal = bytes < ROW_0 ? SPARROWHEM_FILE_SHORT : SPARROWHEM_ROW_BOUNDS;
+        unread("read, cut", WORKED, bytes, refusal, 0, bytes < ROW_0 ? bytes : bytes < ROW_1 ? ENTRY_0 : ENTRY_1);
+    }
+    unread_byte("read 65 before 88", WORKED_BYTES, 1, 1, SPARROWHEM_FILE_SHORT, 0, WORKED_BYTES);
+    unread_byte("read 65 before 1", WORKED_BYTES, 3, 5, SPARROWHEM_FILE_SHORT, 0, WORKED_BYTES);
+
+    unread_byte("read 2", WORKED_BYTES, ARITIES_AT + 3, 16, SPARROWHEM_ARITY_OVER, 0, 3);
+    unread_byte("read 2, an arity of 255", WORKED_BYTES, ARITIES_AT, 255, SPARROWHEM_ARITY_OVER, 0, 0);
+    unread_worked("read 3", WORKED_BYTES, ARITIES_AT, 0x01010101, ARITIES_AT + 1, 0x01010101, SPARROWHEM_NO_LEAF, 0, 0);
+    unread_worked("read 2 before 3", WORKED_BYTES, ARITIES_AT, 0x01010101, ARITIES_AT + 1, 0x10100101, SPARROWHEM_ARITY_OVER, 0, 3);
+    unread_worked("read 2 before 67", WORKED_BYTES, ARITIES_AT, 0x80010000, ENTRY_1, 7, SPARROWHEM_ARITY_OVER, 0, 3);
+    unread_worked("read 3 before 68", WORKED_BYTES, ARITIES_AT, 0x01010101, ENTRY_0 + START, 0, SPARROWHEM_NO_LEAF, 0, 0);
+
+    unread_worked("read 67, below", WORKED_BYTES, ENTRY_1, 6, AS_IS, SPARROWHEM_NUMBER_ORDER, 0, ENTRY_1);
+    unread_worked("read 67, equal", WORKED_BYTES, ENTRY_1, 7, AS_IS, SPARROWHEM_NUMBER_ORDER, 0, ENTRY_1);
+    unread_worked("read 67, both 0", WORKED_BYTES, ENTRY_0, 0, ENTRY_1, 0, SPARROWHEM_NUMBER_ORDER, 0, ENTRY_1);
+    unread_worked("read 67, high bytes", WORKED_BYTES, ENTRY_0, 0x01000000, ENTRY_1, 0x00FFFFFF, SPARROWHEM_NUMBER_ORDER, 0, ENTRY_1);
+    unread_worked("read 67, the greatest first", WORKED_BYTES, ENTRY_0, 0xFFFFFFFF, ENTRY_1, 0, SPARROWHEM_NUMBER_ORDER, 0, ENTRY_1);
+    unread_worked("read 67 before 68 of an earlier entry", WORKED_BYTES, ENTRY_1, 7, ENTRY_0 + START, 0, SPARROWHEM_NUMBER_ORDER, 0, ENTRY_1);
+    unread_worked("read 67 before 69", WORKED_BYTES + 1, ENTRY_1, 7, AS_IS, SPARROWHEM_NUMBER_ORDER, 0, ENTRY_1);
+
+    static const uint32_t starts[] = {0, 32, 34, 35, 33 + 256, 33 + 65536, 33 + 0x80000000u, 0xFFFFFFFF};
+    for (size_t i = 0; i < COUNT(starts); i++) {
+        unread_worked("read 68, the first start", WORKED_BYTES, ENTRY_0 + START, starts[i], AS_IS, SPARROWHEM_ROW_BOUNDS, 0, ENTRY_0);
+        unread_worked("read 68, a later start", WORKED_BYTES, ENTRY_1 + START, starts[i] + 18, AS_IS, SPARROWHEM_ROW_BOUNDS, 0, ENTRY_1);
+    }
+    /* a row past the end; twice these lengths, or with the start to it, is above 2^32 */
+    static const uint32_t lengths[] = {11, 9 + 0x80000000u, 0x7FFFFFFF, 0x7FFFFFF0, 0x80000000u, 0xFFFFFFFF, 0x10000, 0x8009};
+    for (size_t i = 0; i < COUNT(lengths); i++) {
+        unread_worked("read 68, the first length", WORKED_BYTES, ENTRY_0 + LENGTH, lengths[i], AS_IS, SPARROWHEM_ROW_BOUNDS, 0, ENTRY_0);
+        unread_worked("read 68, a later length", WORKED_BYTES, ENTRY_1 + LENGTH, lengths[i] - (i < 2 ? 8 : 0), AS_IS, SPARROWHEM_ROW_BOUNDS, 0, ENTRY_1);
+        unread_worked("read 68 before that of a later entry", WORKED_BYTES, ENTRY_0 + LENGTH, lengths[i], ENTRY_1 + START, 0, SPARROWHEM_ROW_BOUNDS, 0, ENTRY_0);
+    }
+    unread_worked("read 68, a row that ends within the next", WORKED_BYTES, ENTRY_0 + LENGTH, 10, AS_IS, SPARROWHEM_ROW_BOUNDS, 0, ENTRY_1);
+    unread_worked("read 68 before 69", WORKED_BYTES + 2, ENTRY_0 + LENGTH, 8, AS_IS, SPARROWHEM_ROW_BOUNDS, 0, ENTRY_1);
+    unread_worked("read 68 before 4", WORKED_BYTES, ENTRY_0 + LENGTH, 0, AS_IS, SPARROWHEM_ROW_BOUNDS, 0, ENTRY_1);
+
+    unread_worked("read 69, one byte", WORKED_BYTES + 1, AS_IS, AS_IS, SPARROWHEM_FILE_EXTRA, 0, WORKED_BYTES);
+    unread_worked("read 69, eight", WORKED_BYTES + 8, AS_IS, AS_IS, SPARROWHEM_FILE_EXTRA, 0, WORKED_BYTES);
+    unread_worked("read 69 before 4", WORKED_BYTES, ENTRY_1 + LENGTH, 0, AS_IS, SPARROWHEM_FILE_EXTRA, 0, ROW_1);
+    unread_worked("read 69 before 7", WORKED_BYTES + 1, ROW_0, 0x00050005, AS_IS, SPARROWHEM_FILE_EXTRA, 0, WORKED_BYTES);
+
+    unread_worked("read 4", ROW_1, ENTRY_1 + LENGTH, 0, AS_IS, SPARROWHEM_ROW_EMPTY, 900, 0);
+    unread_worked("read 4, of the programme with the greatest number", ROW_1, ENTRY_1 + LENGTH, 0, ENTRY_1, 0xFFFFFFFF, SPARROWHEM_ROW_EMPTY, 0xFFFFFFFF, 0);
+    unread_byte("read 7", WORKED_BYTES, ROW_0, 5, SPARROWHEM_ROW_STRAY, 7, 0);
+    unread_byte("read 7, a high byte", WORKED_BYTES, ROW_0 + 17, 1, SPARROWHEM_ROW_STRAY, 7, 8);
+    unread_byte("read 7, the last row", WORKED_BYTES, ROW_1, 5, SPARROWHEM_ROW_STRAY, 900, 0);
+    unread_worked("read 7, of programme 0", WORKED_BYTES, ROW_0, 0x00050003, ENTRY_0, 0, SPARROWHEM_ROW_STRAY, 0, 1);
+    unread_byte("read 8", WORKED_BYTES, ROW_1, 2, SPARROWHEM_ROW_EARLY, 900, 1);
+    unread_byte("read 9", WORKED_BYTES, ROW_0, 0, SPARROWHEM_ROW_EXTRA, 7, 1);
+    unread_worked("read 9 before 7 at one position", WORKED_BYTES, ROW_0, 0x00090000, AS_IS, SPARROWHEM_ROW_EXTRA, 7, 1);
+    unread_worked("read, the first faulty row", WORKED_BYTES, ROW_0, 0x00090003, ROW_1 - 2, 0x00090000, SPARROWHEM_ROW_STRAY, 7, 1);
+    unread_worked("read 69, rows cut at another place", WORKED_BYTES, ENTRY_0 + LENGTH, 8, ENTRY_1 + START, 49, SPARROWHEM_FILE_EXTRA, 0, ROW_1);
+    uint8_t moved[WORKED_BYTES];
+    memcpy(moved, WORKED, WORKED_BYTES);
+    put_word(moved + ENTRY_0 + LENGTH, 8);
+    put_word(moved + ENTRY_1 + START, 49);
+    put_word(moved + ENTRY_1 + LENGTH, 2);
+    unread("read 8, rows cut at another place", moved, WORKED_BYTES, SPARROWHEM_ROW_EARLY, 7, 8);
+}
+
+/* Files of other sizes: no programmes, too many, the longest alphabet, the longest row, the longest file. */
+static uint8_t big_file[1 << 17];
+
+/* The head, and the arities of a chain: symbol 0 a leaf, the others with one child. Where the rows start. */
+static size_t begin_file(size_t programmes, size_t symbols) {
+    memset(big_file, 0, sizeof big_file);
+    sparrowhem_put(big_file, 0, (uint16_t)programmes);
+    sparrowhem_put(big_file, 1, (uint16_t)symbols);
+    size_t arities = 4 + 12 * programmes;
+    if (symbols > 1) memset(big_file + arities + 1, 1, symbols - 1);
+    return arities + symbols;
+}
+
+/* Entry i, with a chain of so many symbols as its row. Where the next starts. */
+static size_t put_chain(size_t i, uint32_t number, size_t at, size_t length) {
+    uint8_t *entry = big_file + 4 + 12 * i;
+    put_word(entry + NUMBER, number);
+    put_word(entry + START, (uint32_t)at);
+    put_word(entry + LENGTH, (uint32_t)length);
+    for (size_t k = 0; k < length; k++) {
+        sparrowhem_put(big_file + at, k, k + 1 < length);
+    }
+    return at + 2 * length;
+}
+
+/* The big file is read, with just room for its programmes; and refused with a record too few. */
+static void read_big(const char *name, size_t bytes, size_t programmes) {
+    start();
+    lent f = lend_file(big_file, bytes, bytes);
+    records e = lend_records(programmes), few = {e.at, programmes ? programmes - 1 : 0};
+    ready();
+    if (programmes) check_catalogue(name, catalogue_read(f, few), SPARROWHEM_OUTPUT_SHORT, 0, programmes, 0);
+    for (size_t i = 0; i < programmes; i++) {
+        sparrowhem_entry entry;
+        uint32_t *field[] = {&entry.programme, &entry.start, &entry.length};
+        for (size_t k = 0; k < 3; k++) {
+            const uint8_t *at = big_file + 4 + 12 * i + 4 * k;
+            *field[k] = at[0] + 256u * at[1] + 65536u * at[2] + ((uint32_t)at[3] << 24);
+        }
+        expect_bytes(e.at + i, &entry, 12);
+    }
+    check_catalogue(name, catalogue_read(f, e), 0, 0, 0, programmes);
+    if (!programmes) check_catalogue(name, catalogue_read(f, no_records), 0, 0, 0, 0);
+}
+
+static void big_reads(void) {
+    size_t at = begin_file(0, 5);
+    read_big("read, no programmes", at, 0);
+    unread("read 69, no programmes", big_file, at + 1, SPARROWHEM_FILE_EXTRA, 0, at);
+    unread("read 69, no programmes, far", big_file, FILE_MOST, SPARROWHEM_FILE_EXTRA, 0, at);
+    at = begin_file(0, 0);
+    unread("read 1, no symbols", big_file, at, SPARROWHEM_ALPHABET_SIZE, 0, 0);
+    unread("read 1 before 69", big_file, at + 1, SPARROWHEM_ALPHABET_SIZE, 0, 0);
+    at = begin_file(0, 1024);
+    read_big("read, 1,024 symbols", at, 0);
+    big_file[at - 1] = 16;
+    unread("read 2, the last of 1,024", big_file, at, SPARROWHEM_ARITY_OVER, 0, 1023);
+    at = begin_file(0, 1025);
+    unread("read 1, 1,025 symbols", big_file, at, SPARROWHEM_ALPHABET_SIZE, 0, 1025);
+    big_file[4] = 16;
+    unread("read 1 before 2", big_file, at, SPARROWHEM_ALPHABET_SIZE, 0, 1025);
+    unread("read 65 before 1, 1,025 symbols", big_file, at - 1, SPARROWHEM_FILE_SHORT, 0, at - 1);
+    at = begin_file(0, 65532);
+    unread("read 1, 65,532 symbols", big_file, at, SPARROWHEM_ALPHABET_SIZE, 0, 65532);
+    at = begin_file(1, 65520);
+    unread("read 1, before 68", big_file, at, SPARROWHEM_ALPHABET_SIZE, 0, 65520);
+
+    at = begin_file(PROGRAMMES, 1);
+    for (size_t i = 0; i < PROGRAMMES; i++) at = put_chain(i, (uint32_t)(3 * i), at, 1);
+    read_big("read, 256 programmes", at, PROGRAMMES);
+    put_word(big_file + 4 + 12 * 255, 0);
+    unread("read 67, the last of 256", big_file, at, SPARROWHEM_NUMBER_ORDER, 0, 4 + 12 * 255);
+    put_word(big_file + 4 + 12 * 255, 765);
+    big_file[at - 2] = 1;
+    unread("read 7, the last of 256", big_file, at, SPARROWHEM_ROW_STRAY, 765, 0);
+    at = begin_file(PROGRAMMES + 1, 1);
+    for (size_t i = 0; i < PROGRAMMES + 1; i++) at = put_chain(i, (uint32_t)i, at, 1);
+    unread("read 88", big_file, at, SPARROWHEM_PROGRAMMES_OVER, 0, PROGRAMMES + 1);
+    at = begin_file(PROGRAMMES + 1, 0);
+    unread("read 88 before 1", big_file, at, SPARROWHEM_PROGRAMMES_OVER, 0, PROGRAMMES + 1);
+    unread("read 65 before 88, 257 programmes", big_file, at - 1, SPARROWHEM_FILE_SHORT, 0, at - 1);
+    at = begin_file(5461, 0);
+    unread("read 88, the most that fit", big_file, at, SPARROWHEM_PROGRAMMES_OVER, 0, 5461);
+    begin_file(65535, 65535);
+    unread("read 65, the greatest head", big_file, FILE_MOST, SPARROWHEM_FILE_SHORT, 0, FILE_MOST);
+    unread("read 66 before 65", big_file, FILE_MOST + 1, SPARROWHEM_FILE_LONG, 0, FILE_MOST + 1);
+    unread("read 66, far", big_file, sizeof big_file, SPARROWHEM_FILE_LONG, 0, sizeof big_file);
+
+    at = put_chain(0, 1, begin_file(1, 2), BIG);
+    read_big("read, a row of 16,384", at, 1);
+    at = put_chain(0, 0x80000001u, begin_file(1, 2), BIG + 1);
+    unread("read 5", big_file, at, SPARROWHEM_ROW_LONG, 0x80000001u, BIG + 1);
+    big_file[18] = 0;
+    unread("read 5 before 9", big_file, at, SPARROWHEM_ROW_LONG, 0x80000001u, BIG + 1);
+    at = begin_file(2, 2);
+    at = put_chain(0, 1, at, BIG);
+    at = put_chain(1, 2, at, (FILE_MOST - at) / 2);
+    check_that("a file of 65,536 bytes", at == FILE_MOST);
+    read_big("read, 65,536 bytes", at, 2);
+    unread("read 66 before 69", big_file, at + 1, SPARROWHEM_FILE_LONG, 0, at + 1);
+    unread("read 68, at 65,535", big_file, at - 1, SPARROWHEM_ROW_BOUNDS, 0, 16);
+    put_word(big_file + 16 + LENGTH, (FILE_MOST - 30) / 2 - BIG - 1);
+    unread("read 69, the last two bytes of the longest", big_file, at, SPARROWHEM_FILE_EXTRA, 0, FILE_MOST - 2);
+}
+
+/* What is given to write; the worked catalogue, if nothing else. */
+typedef struct {
+    const unsigned *arities, *rows;
+    const uint32_t *numbers, *lengths;
+    size_t s, m, n, k; /* symbols of the alphabet and of the rows, how many numbers and how many lengths */
+} given;
+
+static const given worked_catalogue = {A, ROWS, NUMBERS, LENGTHS, 5, 10, 2, 2};
+
+/* It is refused, with odd bytes behind arities and rows and without, with a buffer and with none. */
+static void unwritten(const char *name, given g, unsigned refusal, uint32_t programme, uint64_t place) {
+    for (size_t odd = 0; odd < 2; odd++) {
+        start_in(MIDDLE);
+        lent a = lend_bytes(g.arities, g.s, 2 * g.s + odd), w = lend_bytes(g.rows, g.m, 2 * g.m + odd), f = lend_bytes(0, 0, 70000);
+        words n = lend_words(g.numbers, g.n), l = lend_words(g.lengths, g.k);
+        ready();
+        check_catalogue(name, catalogue_write(a, n, l, w, odd ? none : f), refusal, programme, place, 0);
+    }
+}
+
+/* It is written, with just room and with more; and refused with a byte too few. What was written is read again. */
+static void written(const char *name, given g, const uint8_t *file, size_t bytes) {
+    for (size_t more = 0; more < 4; more++) {
+        start();
+        lent a = lend_bytes(g.arities, g.s, 2 * g.s + more % 2), w = lend_bytes(g.rows, g.m, 2 * g.m + more / 2);
+        lent f = lend_bytes(0, 0, bytes + 5 * more), few = {f.at, bytes - 1}, just = {f.at, bytes};
+        words n = lend_words(g.numbers, g.n), l = lend_words(g.lengths, g.k);
+        records e = lend_records(g.n);
+        ready();
+        check_catalogue(name, catalogue_write(a, n, l, w, few), SPARROWHEM_OUTPUT_SHORT, 0, bytes, 0);
+        expect_bytes(f.at, file, bytes);
+        check_catalogue(name, catalogue_write(a, n, l, w, f), 0, 0, 0, bytes);
+        size_t at = 4 + 12 * g.n + g.s;
+        for (size_t i = 0; i < g.n; i++) {
+            sparrowhem_entry entry = {g.numbers[i], (uint32_t)at, g.lengths[i]};
+            expect_bytes(e.at + i, &entry, 12);
+            at += 2 * (size_t)g.lengths[i];
+        }
+        check_catalogue(name, catalogue_read(just, e), 0, 0, 0, g.n);
+    }
+}
+
+static void catalogue_writes(void) {
+    written("write", worked_catalogue, WORKED, WORKED_BYTES);
+    given g = worked_catalogue;
+    g.n = g.k = g.m = 0;
+    begin_file(0, 5);
+    memcpy(big_file + 4, "\0\0\1\2\3", 5);
+    written("write, no programmes", g, big_file, 9);
+    start();
+    lent a = lend(A, 5), w = lend(ROWS, 10);
+    words n = lend_words(NUMBERS, 2), l = lend_words(LENGTHS, 2);
+    ready();
+    check_catalogue("write 1, nothing at all", catalogue_write(none, no_words, no_words, none, none), SPARROWHEM_ALPHABET_SIZE, 0, 0, 0);
+    check_catalogue("write 1, no alphabet", catalogue_write(none, n, l, w, none), SPARROWHEM_ALPHABET_SIZE, 0, 0, 0);
+    check_catalogue("write 19, an alphabet alone", catalogue_write(a, no_words, no_words, none, none), SPARROWHEM_OUTPUT_SHORT, 0, 9, 0);
+    check_catalogue("write 68, no numbers", catalogue_write(a, no_words, l, w, none), SPARROWHEM_ROW_BOUNDS, 0, 10, 0);
+    check_catalogue("write 68, no lengths", catalogue_write(a, n, no_words, w, none), SPARROWHEM_ROW_BOUNDS, 0, 10, 0);
+    check_catalogue("write 68, no rows", catalogue_write(a, n, l, none, none), SPARROWHEM_ROW_BOUNDS, 0, 0, 0);
+    check_catalogue("write 68, rows alone", catalogue_write(a, no_words, no_words, w, none), SPARROWHEM_ROW_BOUNDS, 0, 10, 0);
+    check_catalogue("write 67, lengths for numbers and numbers for lengths", catalogue_write(a, l, n, w, none), SPARROWHEM_NUMBER_ORDER, 0, 1, 0);
+    check_catalogue("write 19, no buffer", catalogue_write(a, n, l, w, none), SPARROWHEM_OUTPUT_SHORT, 0, WORKED_BYTES, 0);
+    lent f = lend_bytes(0, 0, 60);
+    ready();
+    expect_bytes(f.at, WORKED, WORKED_BYTES);
+    memcpy(f.at, WORKED, WORKED_BYTES);
+    check_catalogue("write, over the same file", catalogue_write(a, n, l, w, f), 0, 0, 0, WORKED_BYTES);
+
+    /* the alphabet */
+    static const unsigned over[] = {0, 16, 17, 0, 0}, high[] = {0, 0, 0, 256, 0}, top[] = {65535, 0, 0, 0, 0}, leafless[] = {1, 2, 3, 4, 5};
+    static const uint32_t equal[] = {7, 7};
+    g = worked_catalogue, g.arities = over;
+    unwritten("write 2", g, SPARROWHEM_ARITY_OVER, 0, 1);
+    g.arities = high;
+    unwritten("write 2, an arity of 256", g, SPARROWHEM_ARITY_OVER, 0, 3);
+    g.arities = top;
+    unwritten("write 2, an arity of 65,535", g, SPARROWHEM_ARITY_OVER, 0, 0);
+    g.numbers = equal;
+    unwritten("write 2 before 67", g, SPARROWHEM_ARITY_OVER, 0, 0);
+    g.arities = leafless;
+    unwritten("write 3 before 67", g, SPARROWHEM_NO_LEAF, 0, 0);
+    g.arities = thousand, g.s = 1025;
+    unwritten("write 1 before 67", g, SPARROWHEM_ALPHABET_SIZE, 0, 1025);
+
+    /* the numbers, then the lengths */
+    static const uint32_t falling[] = {0xFFFFFFFF, 0}, bytewise[] = {0x01000000, 0x00FFFFFF}, three[] = {9, 1, 0}, early[] = {8, 2}, swapped[] = {1, 9};
+    static const uint32_t one_less[] = {9, 0}, one_more[] = {9, 2}, wraps[] = {9 + 0x80000000u, 1 + 0x80000000u}, longest[] = {0xFFFFFFFF, 11};
+    g = worked_catalogue, g.numbers = equal;
+    unwritten("write 67, equal", g, SPARROWHEM_NUMBER_ORDER, 0, 1);
+    g.numbers = falling;
+    unwritten("write 67, falling", g, SPARROWHEM_NUMBER_ORDER, 0, 1);
+    g.numbers = bytewise, g.k = 1;
+    unwritten("write 67 before 68", g, SPARROWHEM_NUMBER_ORDER, 0, 1);
+    g = worked_catalogue, g.lengths = three, g.k = 3;
+    unwritten("write 68, a length more, with the right sum", g, SPARROWHEM_ROW_BOUNDS, 0, 10);
+    g.k = 1, g.m = 9;
+    unwritten("write 68, a length less, with the right sum", g, SPARROWHEM_ROW_BOUNDS, 0, 9);
+    g = worked_catalogue, g.lengths = one_less;
+    unwritten("write 68, one less", g, SPARROWHEM_ROW_BOUNDS, 0, 10);
+    g.lengths = one_more;
+    unwritten("write 68, one more", g, SPARROWHEM_ROW_BOUNDS, 0, 10);
+    g.lengths = wraps;
+    unwritten("write 68, a sum of 2^32 and 10", g, SPARROWHEM_ROW_BOUNDS, 0, 10);
+    g.lengths = longest;
+    unwritten("write 68, 2^32 - 1 and 11", g, SPARROWHEM_ROW_BOUNDS, 0, 10);
+    g.lengths = wraps, g.n = g.k = 1, g.m = 9;
+    unwritten("write 68, 2^31 and 9", g, SPARROWHEM_ROW_BOUNDS, 0, 9);
+
+    /* the rows */
+    g = worked_catalogue, g.lengths = early;
+    unwritten("write 8", g, SPARROWHEM_ROW_EARLY, 7, 8);
+    g.lengths = swapped;
+    unwritten("write 8, the first symbol alone", g, SPARROWHEM_ROW_EARLY, 7, 1);
+    static const unsigned stray[] = {4, 3, 0, 0, 2, 1, 3, 0, 5, 1}, extra[] = {3, 0, 0, 9, 2, 1, 3, 0, 0, 1}, last[] = {4, 3, 0, 0, 2, 1, 3, 0, 0, 65535};
+    g = worked_catalogue, g.rows = stray;
+    unwritten("write 7", g, SPARROWHEM_ROW_STRAY, 7, 8);
+    g.rows = extra;
+    unwritten("write 9 before 7", g, SPARROWHEM_ROW_EXTRA, 7, 3);
+    g.rows = last;
+    unwritten("write 7, the last row", g, SPARROWHEM_ROW_STRAY, 900, 0);
+    g.rows = ROWS, g.m = 9, g.lengths = one_less;
+    unwritten("write 4", g, SPARROWHEM_ROW_EMPTY, 900, 0);
+    static const uint32_t least_first[] = {0, 0xFFFFFFFF}, none_first[] = {0, 9};
+    g.numbers = least_first, g.lengths = none_first;
+    unwritten("write 4, of programme 0", g, SPARROWHEM_ROW_EMPTY, 0, 0);
+}
+
+/* Rows that are chains of ones over a leaf 0. */
+static unsigned chains[4 * BIG];
+static uint32_t rising[70000], sizes[70000];
+
+/* Chains of these lengths, end to end; how many symbols they have. */
+static size_t lay_chains(const uint32_t *lengths, size_t count) {
+    size_t m = 0;
+    for (size_t i = 0; i < count; i++) {
+        for (uint32_t k = 0; k < lengths[i]; k++) chains[m++] = k + 1 < lengths[i];
+    }
+    return m;
+}
+
+static void big_writes(void) {
+    static const unsigned two[] = {0, 1};
+    given g = {two, chains, rising, sizes, 2, 0, 0, 0};
+    for (size_t i = 0; i < COUNT(rising); i++) {
+        rising[i] = (uint32_t)i;
+        sizes[i] = 1;
+    }
+    g.n = g.k = PROGRAMMES, g.m = lay_chains(sizes, PROGRAMMES);
+    size_t at = begin_file(PROGRAMMES, 2);
+    for (size_t i = 0; i < PROGRAMMES; i++) at = put_chain(i, rising[i], at, 1);
+    written("write, 256 programmes", g, big_file, at);
+    g.n = PROGRAMMES + 1, g.s = 0;
+    unwritten("write 88 before 1", g, SPARROWHEM_PROGRAMMES_OVER, 0, PROGRAMMES + 1);
+    g.n = COUNT(rising), g.s = 2;
+    unwritten("write 88, 70,000 programmes", g, SPARROWHEM_PROGRAMMES_OVER, 0, COUNT(rising));
+    g.n = 1, g.k = COUNT(sizes);
+    unwritten("write 68, 70,000 lengths", g, SPARROWHEM_ROW_BOUNDS, 0, g.m);
+    g.k = 1, g.m = COUNT(chains);
+    unwritten("write 68, 65,536 symbols", g, SPARROWHEM_ROW_BOUNDS, 0, COUNT(chains));
+    sizes[0] = COUNT(chains);
+    unwritten("write 66, 65,536 symbols", g, SPARROWHEM_FILE_LONG, 0, 4 + 12 + 2 + 2 * COUNT(chains));
+    static unsigned many[70000];
+    g.arities = many, g.s = COUNT(many);
+    unwritten("write 1, 70,000 symbols", g, SPARROWHEM_ALPHABET_SIZE, 0, COUNT(many));
+    for (size_t i = 0; i < PROGRAMMES; i++) sizes[i] = 0xFFFFFFFF;
+    g.arities = two, g.s = 2, g.n = g.k = PROGRAMMES, g.m = COUNT(chains) - PROGRAMMES;
+    unwritten("write 68, the greatest sum", g, SPARROWHEM_ROW_BOUNDS, 0, g.m);
+    for (size_t i = 0; i < PROGRAMMES; i++) sizes[i] = 0x01000000;
+    g.m = 0;
+    unwritten("write 68, 256 lengths with a sum of 2^32", g, SPARROWHEM_ROW_BOUNDS, 0, 0);
+
+    /* the longest file, and one that is two bytes, or one, too long */
+    sizes[0] = BIG, sizes[1] = (FILE_MOST - 30) / 2 - BIG;
+    g.n = g.k = 2, g.m = lay_chains(sizes, 2);
+    put_chain(1, 1, put_chain(0, 0, begin_file(2, 2), BIG), sizes[1]);
+    written("write, 65,536 bytes", g, big_file, FILE_MOST);
+    sizes[1]++, g.m = lay_chains(sizes, 2);
+    unwritten("write 66, 65,538 bytes", g, SPARROWHEM_FILE_LONG, 0, FILE_MOST + 2);
+    chains[0] = 9;
+    unwritten("write 66 before 7", g, SPARROWHEM_FILE_LONG, 0, FILE_MOST + 2);
+    static const unsigned odd[] = {0, 1, 1};
+    g.arities = odd, g.s = 3, sizes[1]--, g.m = lay_chains(sizes, 2);
+    unwritten("write 66, 65,537 bytes", g, SPARROWHEM_FILE_LONG, 0, FILE_MOST + 1);
+    g.arities = two, g.s = 2, sizes[0]++, sizes[1]--, g.m = lay_chains(sizes, 2);
+    unwritten("write 5", g, SPARROWHEM_ROW_LONG, 0, BIG + 1);
+    chains[0] = 9;
+    unwritten("write 5 before 7", g, SPARROWHEM_ROW_LONG, 0, BIG + 1);
+    g.arities = thousand, g.s = 1024, g.n = g.k = 1, g.m = 1, sizes[0] = 1, chains[0] = 1023;
+    begin_file(1, 1024);
+    memset(big_file + 16, 0, 1024);
+    put_chain(0, 0, 16 + 1024, 1);
+    sparrowhem_put(big_file + 16 + 1024, 0, 1023);
+    written("write, 1,024 symbols", g, big_file, 16 + 1024 + 2);
+}
+
 /* What a call takes of the stack. */
 static lent run_a, run_w, run_t, run_c, run_q, run_o, run_qs, run_ls, run_ps, run_rs;
 static size_t run_n;
@@ -711,6 +1208,56 @@ static void stacks(size_t n, kibs under) {
     stacks_of(comb, n, under);
 }
 
+/* The calls on catalogue files, of so many programmes, under alphabets of 2 symbols and of 1,024, answered and refused. */
+static words run_ns, run_lens;
+static records run_es;
+static lent run_ws, run_f;
+static sparrowhem_catalogue run_told;
+
+static void run_catalogue_read(void) { run_told = catalogue_read(run_f, run_es); }
+static void run_catalogue_write(void) { run_told = catalogue_write(run_a, run_ns, run_lens, run_ws, run_f); }
+
+/* That the call, of which `most` is known, answers or refuses as it should, and takes no more stack than the header says. */
+static void check_file_stack(size_t *most, void (*run)(void), unsigned refusal) {
+    static const size_t kib = 3;
+    size_t took = stack_of(run) - stack_of(run_nothing);
+    *most = took > *most ? took : *most;
+    check_that("a call on a file takes no more stack than the header says", took < kib * 1024);
+    check_that("which answered or refused", run_told.refusal == refusal);
+}
+
+static void file_stacks(size_t symbols, size_t programmes, size_t bytes) {
+    static unsigned arities[1024];
+    size_t first = 4 + 12 * programmes + symbols, m = (bytes - first) / 2, read = 0, write = 0;
+    for (size_t i = 1; i < symbols; i++) arities[i] = 1;
+    for (size_t i = 0; i < programmes; i++) { /* rows of about one length */
+        rising[i] = (uint32_t)i;
+        sizes[i] = (uint32_t)(m * (i + 1) / programmes - m * i / programmes);
+    }
+    lay_chains(sizes, programmes);
+    start_in(WIDE);
+    run_a = lend(arities, symbols), run_ws = lend(chains, m), run_f = lend_bytes(0, 0, first + 2 * m);
+    run_ns = lend_words(rising, COUNT(rising)), run_lens = lend_words(sizes, programmes), run_es = lend_records(programmes);
+    run_ns.count = programmes;
+    check_file_stack(&write, run_catalogue_write, SPARROWHEM_ANSWERED);
+    check_file_stack(&read, run_catalogue_read, SPARROWHEM_ANSWERED);
+    run_f.bytes--;
+    check_file_stack(&write, run_catalogue_write, SPARROWHEM_OUTPUT_SHORT);
+    check_file_stack(&read, run_catalogue_read, SPARROWHEM_ROW_BOUNDS);
+    run_f.bytes++, run_es.count--;
+    check_file_stack(&read, run_catalogue_read, SPARROWHEM_OUTPUT_SHORT);
+    run_f.at[run_f.bytes - 1] = run_ws.at[run_ws.bytes - 1] = 255;
+    check_file_stack(&write, run_catalogue_write, SPARROWHEM_ROW_STRAY);
+    check_file_stack(&read, run_catalogue_read, SPARROWHEM_ROW_STRAY);
+    run_f.at[first - symbols] = run_a.at[0] = 255;
+    check_file_stack(&write, run_catalogue_write, SPARROWHEM_ARITY_OVER);
+    check_file_stack(&read, run_catalogue_read, SPARROWHEM_ARITY_OVER);
+    run_f.bytes = first - 1, run_ns.count = COUNT(rising);
+    check_file_stack(&write, run_catalogue_write, SPARROWHEM_PROGRAMMES_OVER);
+    check_file_stack(&read, run_catalogue_read, SPARROWHEM_FILE_SHORT);
+    printf("stack: catalogue of %zu bytes, %zu symbols, %zu programmes, read %zu bytes, write %zu bytes\n", bytes, symbols, programmes, read, write);
+}
+
 /* What the header itself defines. */
 static void conveniences(void) {
     char version[16];
@@ -729,6 +1276,12 @@ int main(void) {
     check_that("an answer is 24 bytes", sizeof(sparrowhem_answer) == 24);
     check_that("with its fields in order", offsetof(sparrowhem_answer, refusal) == 0 && offsetof(sparrowhem_answer, change) == 4
         && offsetof(sparrowhem_answer, place) == 8 && offsetof(sparrowhem_answer, count) == 16);
+    check_that("an answer on a file is 24 bytes", sizeof(sparrowhem_catalogue) == 24);
+    check_that("with its fields in order", offsetof(sparrowhem_catalogue, refusal) == 0 && offsetof(sparrowhem_catalogue, programme) == 4
+        && offsetof(sparrowhem_catalogue, place) == 8 && offsetof(sparrowhem_catalogue, count) == 16);
+    check_that("a record is 12 bytes", sizeof(sparrowhem_entry) == 12);
+    check_that("with its fields in order", offsetof(sparrowhem_entry, programme) == 0 && offsetof(sparrowhem_entry, start) == 4
+        && offsetof(sparrowhem_entry, length) == 8);
     builds();
     finds();
     wrong_classes();
@@ -738,9 +1291,17 @@ int main(void) {
     fullest_sheet();
     replaces();
     classes_far_away();
+    catalogue_reads();
+    big_reads();
+    catalogue_writes();
+    big_writes();
     stacks(9, SHORT);
     stacks(256, SHORT);
     stacks(BIG, LONG);
+    file_stacks(2, 2, 50);
+    file_stacks(1024, 1, 16 + 1024 + 2);
+    file_stacks(2, 4, FILE_MOST);
+    file_stacks(1024, PROGRAMMES, FILE_MOST);
     printf("%u passed, %u failed\n", passed, failed);
     return failed != 0;
 }

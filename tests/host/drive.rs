@@ -2,7 +2,7 @@
 // a model of docs/SCOPE.md that is written from what a row means: a tree. The model shares nothing with the proved code.
 //
 // drive [--seed N] [--inputs N] SERVER [WORD..]: the last words start the server. Its last line is `N passed, M failed`.
-use std::collections::HashMap;
+use std::collections::{BTreeSet, HashMap};
 use std::io::{Read, Write};
 use std::process::{Child, ChildStdin, ChildStdout, Command, Stdio};
 
@@ -205,10 +205,13 @@ struct Lent {
     row: Vec<u8>,
     table: Vec<u8>,
     classes: Vec<u8>,
-    other: Vec<u8>, // pattern or replacement, or the patterns of a sheet
-    lengths: Vec<u8>,
+    other: Vec<u8>,   // pattern or replacement, or the patterns of a sheet
+    lengths: Vec<u8>, // of a sheet's patterns; or, four bytes each, of a catalogue's rows, which are lent as the row
     out: Vec<u8>,
     results: Vec<u8>,
+    numbers: Vec<u8>, // of a catalogue's programmes, four bytes each
+    file: Vec<u8>,
+    entries: Vec<u8>, // records, three numbers of four bytes each
     length: u64,
     position: u64,
 }
@@ -217,6 +220,7 @@ struct Lent {
 struct Answer {
     refusal: u32,
     change: i32,
+    programme: u32,
     place: u64,
     count: u64,
 }
@@ -336,12 +340,169 @@ fn model_replace(x: &mut Lent) -> Result<Answer, Refused> {
     Ok(Answer { change: m as i32 - old as i32, count: m as u64, ..Answer::default() })
 }
 
+// ---- the model of catalogue files ------------------------------------------------------------------------------------------
+
+// An alphabet, and programmes over it: number and row. It need not be a right one.
+#[derive(Clone)]
+struct Catalogue {
+    arities: Vec<u16>,
+    programmes: Vec<(u32, Vec<u16>)>,
+}
+
+// A refusal of a file: number and place, and beside a row's fault the number of the programme, else 0.
+type FileRefused = (Refused, u32);
+
+fn of_no_programme(r: Refused) -> FileRefused {
+    (r, 0)
+}
+
+// A number of any width, the lowest byte first.
+fn wide(b: &[u8]) -> u64 {
+    b.iter().rev().fold(0, |n, &x| 256 * n + x as u64)
+}
+
+fn wides(b: &[u8]) -> Vec<u64> {
+    b.chunks_exact(4).map(wide).collect()
+}
+
+fn four_bytes(numbers: impl Iterator<Item = u32>) -> Vec<u8> {
+    numbers.flat_map(|n| n.to_le_bytes()).collect()
+}
+
+// Where the first row starts.
+fn rows_at(programmes: usize, symbols: usize) -> usize {
+    4 + 12 * programmes + symbols
+}
+
+// The file of a catalogue, part by part. An arity that takes more than a byte has none; it gets the byte's most.
+fn file_of(c: &Catalogue) -> Vec<u8> {
+    let mut f = bytes(&[c.programmes.len() as u16, c.arities.len() as u16]);
+    let mut start = rows_at(c.programmes.len(), c.arities.len());
+    for (number, row) in &c.programmes {
+        f.extend(four_bytes([*number, start as u32, row.len() as u32].into_iter()));
+        start += 2 * row.len();
+    }
+    f.extend(c.arities.iter().map(|&a| a.min(255) as u8));
+    c.programmes.iter().for_each(|(_, row)| f.extend(bytes(row)));
+    f
+}
+
+// 67: where a number stands that is not above the one before it.
+fn falls(numbers: &[u64]) -> Option<usize> {
+    numbers.windows(2).position(|w| w[1] <= w[0]).map(|i| i + 1)
+}
+
+// 4, 5, 7, 8, 9 of one programme's row.
+fn row_fault(arities: &[u16], number: u64, row: &[u16]) -> Result<(), FileRefused> {
+    size_fault(row.len() as u64, &ROW).and_then(|()| tree(arities, row, &ROW)).map(|_| ()).map_err(|r| (r, number as u32))
+}
+
+// What a file says, read from the front. Numbers are wide, so that no sum is cut off.
+fn file_says(f: &[u8]) -> Result<(Vec<u16>, Vec<[u64; 3]>), FileRefused> {
+    let size = f.len();
+    let refuse = |number: u32, place: usize| Err(((number, place as u64), 0));
+    if size > 65536 {
+        return refuse(66, size);
+    }
+    if size < 4 {
+        return refuse(65, size);
+    }
+    let (n, s) = (wide(&f[..2]) as usize, wide(&f[2..4]) as usize);
+    if size < rows_at(n, s) {
+        return refuse(65, size);
+    }
+    if n > 256 {
+        return refuse(88, n);
+    }
+    let (contents, arities) = f[4..rows_at(n, s)].split_at(12 * n);
+    let arities: Vec<u16> = arities.iter().map(|&a| a as u16).collect();
+    alphabet_fault(&arities).map_err(of_no_programme)?;
+    let entries: Vec<[u64; 3]> = contents.chunks(12).map(|e| [wide(&e[..4]), wide(&e[4..8]), wide(&e[8..])]).collect();
+    if let Some(i) = falls(&entries.iter().map(|e| e[0]).collect::<Vec<_>>()) {
+        return refuse(67, 4 + 12 * i);
+    }
+    let mut next = rows_at(n, s) as u64;
+    for (i, [_, start, length]) in entries.iter().enumerate() {
+        if *start != next || start + 2 * length > size as u64 {
+            return refuse(68, 4 + 12 * i);
+        }
+        next = start + 2 * length;
+    }
+    if next < size as u64 {
+        return refuse(69, next as usize);
+    }
+    for [number, start, length] in &entries {
+        row_fault(&arities, *number, &numbers(&f[*start as usize..(start + 2 * length) as usize]))?;
+    }
+    Ok((arities, entries))
+}
+
+fn model_read(x: &mut Lent) -> Result<Answer, FileRefused> {
+    let (_, entries) = file_says(&x.file)?;
+    let n = entries.len();
+    if x.entries.len() / 12 < n {
+        return Err(((19, n as u64), 0));
+    }
+    x.entries[..12 * n].copy_from_slice(&four_bytes(entries.iter().flatten().map(|&v| v as u32)));
+    Ok(Answer { count: n as u64, ..Answer::default() })
+}
+
+fn model_write(x: &mut Lent) -> Result<Answer, FileRefused> {
+    let (arities, rows, ns, ls) = (numbers(&x.arities), numbers(&x.row), wides(&x.numbers), wides(&x.lengths));
+    let refuse = |number: u32, place: usize| Err(((number, place as u64), 0));
+    if ns.len() > 256 {
+        return refuse(88, ns.len());
+    }
+    alphabet_fault(&arities).map_err(of_no_programme)?;
+    if let Some(i) = falls(&ns) {
+        return refuse(67, i);
+    }
+    if ls.len() != ns.len() || ls.iter().sum::<u64>() != rows.len() as u64 {
+        return refuse(68, rows.len());
+    }
+    let size = rows_at(ns.len(), arities.len()) + 2 * rows.len();
+    if size > 65536 {
+        return refuse(66, size);
+    }
+    let (mut left, mut programmes) = (&rows[..], vec![]);
+    for (n, l) in ns.iter().zip(ls) {
+        let (row, rest) = left.split_at(l as usize);
+        row_fault(&arities, *n, row)?;
+        programmes.push((*n as u32, row.to_vec()));
+        left = rest;
+    }
+    if x.file.len() < size {
+        return refuse(19, size);
+    }
+    x.file[..size].copy_from_slice(&file_of(&Catalogue { arities, programmes }));
+    Ok(Answer { count: size as u64, ..Answer::default() })
+}
+
+// Which of the causes of a 68 it was. One stands for each that a sum of 32 bits would have passed over.
+const CAUSES: [&str; 6] = ["a start", "an end", "an end over 2^32", "how many lengths", "their sum", "a sum over 2^32"];
+
+fn cause(call: u32, x: &Lent, place: u64) -> usize {
+    if call == CATALOGUE_WRITE {
+        let (ls, m) = (wides(&x.lengths), x.row.len() as u64 / 2);
+        return if ls.len() != x.numbers.len() / 4 { 3 } else if ls.iter().sum::<u64>() % (1 << 32) == m { 5 } else { 4 };
+    }
+    let f = &x.file;
+    let lengths = f[4..place as usize].chunks(12).map(|e| wide(&e[8..]));
+    let next = rows_at(wide(&f[..2]) as usize, wide(&f[2..4]) as usize) as u64 + 2 * lengths.sum::<u64>();
+    let entry = &f[place as usize..place as usize + 12];
+    let end = next + 2 * wide(&entry[8..]);
+    if wide(&entry[4..8]) != next { 0 } else if end % (1 << 32) <= f.len() as u64 { 2 } else { 1 }
+}
+
 // ---- the archive, behind its server ----------------------------------------------------------------------------------------
 
 const BUILD: u32 = 1;
 const FIND: u32 = 2;
 const REPLACE: u32 = 3;
 const SHEET: u32 = 4;
+const CATALOGUE_READ: u32 = 5;
+const CATALOGUE_WRITE: u32 = 6;
+const NAMES: [&str; 7] = ["", "build", "find", "replace", "sheet", "catalogue read", "catalogue write"];
 
 struct Server {
     child: Child,
@@ -359,7 +520,9 @@ impl Server {
 
     // The answer, and whether a byte changed that no call may change; the buffers are as the call left them.
     fn call(&mut self, call: u32, shift: u32, x: &mut Lent) -> (Answer, bool) {
-        let lists = [&x.arities, &x.row, &x.table, &x.classes, &x.other, &x.lengths, &x.out, &x.results];
+        let lists = [
+            &x.arities, &x.row, &x.table, &x.classes, &x.other, &x.lengths, &x.out, &x.results, &x.numbers, &x.file, &x.entries,
+        ];
         let mut q = vec![];
         q.extend(call.to_le_bytes());
         q.extend(shift.to_le_bytes());
@@ -368,14 +531,16 @@ impl Server {
         lists.iter().for_each(|l| q.extend((l.len() as u32).to_le_bytes()));
         lists.iter().for_each(|l| q.extend(l.iter()));
         self.to.write_all(&q).expect("the server reads");
-        let mut a = vec![0u8; 28 + x.row.len() + x.table.len() + x.classes.len() + x.out.len() + x.results.len()];
+        let written = [&mut x.row, &mut x.table, &mut x.classes, &mut x.out, &mut x.results, &mut x.file, &mut x.entries];
+        let mut a = vec![0u8; 28 + written.iter().map(|list| list.len()).sum::<usize>()];
         self.from.read_exact(&mut a).expect("the server answers");
         let word = |i: usize| u32::from_le_bytes([a[i], a[i + 1], a[i + 2], a[i + 3]]);
         let long = |i: usize| word(i) as u64 + ((word(i + 4) as u64) << 32);
-        let answer = Answer { refusal: word(0), change: word(4) as i32, place: long(8), count: long(16) };
+        let (change, programme) = if call < CATALOGUE_READ { (word(4) as i32, 0) } else { (0, word(4)) };
+        let answer = Answer { refusal: word(0), change, programme, place: long(8), count: long(16) };
         let damage = word(24) != 0;
         let mut left = &a[28..];
-        for list in [&mut x.row, &mut x.table, &mut x.classes, &mut x.out, &mut x.results] {
+        for list in written {
             let (mine, rest) = left.split_at(list.len());
             list.copy_from_slice(mine);
             left = rest;
@@ -667,6 +832,224 @@ impl Dice {
     }
 }
 
+// ---- random catalogues and files -------------------------------------------------------------------------------------------
+
+impl Dice {
+    // As `alphabet`, of more sizes; one may be a leaf alone.
+    fn file_alphabet(&mut self) -> Vec<u16> {
+        let mut arities = self.alphabet();
+        match self.below(40) {
+            0 => arities.truncate(1),
+            1 => arities.resize(1023 + self.below(2), 0),
+            2 => arities.resize(7 + self.below(1000), 3),
+            _ => (),
+        }
+        arities
+    }
+
+    // Strictly rising numbers: the least, the greatest, some that are close to where a byte is full, or any.
+    fn rising(&mut self, n: usize) -> Vec<u32> {
+        let style = self.below(4);
+        let base = self.pick(&[0, 250, 65530, 16777210, (1 << 31) - 3, u32::MAX - 2000]);
+        let mut set = BTreeSet::new();
+        while set.len() < n {
+            let k = set.len() as u32;
+            set.insert(match style {
+                0 => k,
+                1 => u32::MAX - k,
+                2 => base + self.below(4 * n) as u32,
+                _ => self.next() as u32,
+            });
+        }
+        set.into_iter().collect()
+    }
+
+    fn programmes(&mut self) -> usize {
+        match self.below(60) {
+            0 | 1 => 255 + self.below(2),
+            2 => self.below(257),
+            3..=6 => 0,
+            7..=14 => 1,
+            _ => 2 + self.below(6),
+        }
+    }
+
+    // A row of a catalogue; a leaf alone where there is no other symbol.
+    fn file_row(&mut self, arities: &[u16], n: usize, exact: bool) -> Vec<u16> {
+        if arities.len() == 1 {
+            return vec![0];
+        }
+        self.row(arities, n, exact)
+    }
+
+    // A right catalogue; where `full`, one whose file is as long as it can be, or has as long a row.
+    fn catalogue(&mut self, full: bool) -> Catalogue {
+        let arities = self.file_alphabet();
+        let n = if full { self.pick(&[1, 2, 2, 3, 4, 9, 256]) } else { self.programmes() };
+        let numbers = self.rising(n);
+        let mut left = (65536 - rows_at(numbers.len(), arities.len())) / 2; // symbols that there is still room for
+        let mut behind = numbers.len();
+        let mut programmes = vec![];
+        for number in numbers {
+            behind -= 1;
+            let most = MOST.min(left - behind);
+            let least = left.saturating_sub(MOST * behind).clamp(1, most);
+            let n = match self.below(60) {
+                _ if full => least + self.below(most - least + 1),
+                0 => 1 + self.below(400),
+                _ => 1 + self.below(24),
+            };
+            let exact = full || self.one_in(3);
+            let row = self.file_row(&arities, n.min(most), exact);
+            left -= row.len();
+            programmes.push((number, row));
+        }
+        Catalogue { arities, programmes }
+    }
+
+    fn small_catalogue(&mut self) -> Catalogue {
+        loop {
+            let c = self.catalogue(false);
+            if file_of(&c).len() <= 80 {
+                return c;
+            }
+        }
+    }
+
+    // One fault of a catalogue, or none that shows.
+    fn damage_catalogue(&mut self, c: &mut Catalogue) {
+        let (n, s) = (c.programmes.len(), c.arities.len());
+        match self.below(60) {
+            0..=3 => {
+                let more = self.pick(&[257, 258, 300]);
+                let from = c.programmes.last().map_or(0, |p| p.0);
+                c.programmes.extend((n..more).map(|k| (from.wrapping_add(k as u32), vec![0])));
+            }
+            4..=12 if s > 0 => self.bad_alphabet(&mut c.arities),
+            // rows that fill the file, or go over it by a byte or more
+            13..=14 => {
+                let left = (65536 - rows_at(n, s).min(65536)) / 2;
+                c.programmes.iter_mut().for_each(|p| p.1.truncate(1));
+                let more = left.saturating_sub(n) + self.below(3);
+                if let Some(p) = c.programmes.last_mut() {
+                    p.1.resize(more, 0);
+                }
+            }
+            _ if n == 0 => (),
+            15..=24 => {
+                let (i, j) = (self.below(n), self.below(n));
+                c.programmes[i].0 = match self.below(3) {
+                    0 => c.programmes[j].0,
+                    1 => c.programmes[j].0.wrapping_add(self.pick(&[1, u32::MAX, 256, 65536, 1 << 24])),
+                    _ => self.pick(&[0, u32::MAX]),
+                };
+            }
+            k => {
+                let i = self.below(n);
+                let row = &mut c.programmes[i].1;
+                match k {
+                    25..=29 => row.clear(),
+                    30 => *row = vec![(s > 1) as u16; MOST + self.below(3)],
+                    _ => self.damage(row, s),
+                }
+            }
+        }
+    }
+
+    // One fault of a file with so many programmes and symbols, or none that shows.
+    fn damage_file(&mut self, f: &mut Vec<u8>, n: usize, s: usize) {
+        fn set(f: &mut [u8], at: usize, width: usize, number: u64) {
+            f[at..at + width].copy_from_slice(&number.to_le_bytes()[..width]);
+        }
+        fn add(f: &mut [u8], at: usize, more: u64) {
+            let old = wide(&f[at..at + 4]);
+            set(f, at, 4, old.wrapping_add(more));
+        }
+        let size = f.len();
+        let i = self.below(n.max(1));
+        let entry = 4 + 12 * i; // of programme i: number, start at 4, length at 8
+        match self.below(13) {
+            0 if self.one_in(8) => f.resize(65536 + self.below(3), 0),
+            0 => f.truncate(self.below(size + 1)),
+            1 => f.resize(size + 1 + self.below(3), 0),
+            2 => f[self.below(size)] = self.next() as u8,
+            3 => {
+                let other = self.pick(&[0, n + 1, n.saturating_sub(1), 256, 257, 300, 5461, 65535]);
+                set(f, 0, 2, other as u64);
+                if self.one_in(2) {
+                    f.resize(rows_at(other, s).min(65536).max(size), 0);
+                }
+            }
+            4 => {
+                let other = self.pick(&[0, s + 1, s - 1, 1024, 1025, 65535, 65532 - 12 * n]);
+                set(f, 2, 2, other as u64);
+                if self.one_in(2) {
+                    f.resize(rows_at(n, other).min(65536).max(size), 0);
+                }
+            }
+            5 => f[4 + 12 * n + self.below(s)] = self.pick(&[0, 1, 15, 16, 17, 128, 255]),
+            _ if n == 0 => f.push(0),
+            6 => add(f, entry, self.pick(&[1, u64::MAX, 1 << 8, 1 << 16, 1 << 24, 1 << 31])),
+            7 => add(f, entry + 4, self.pick(&[1, 2, u64::MAX, 1 << 8, 1 << 16, 1 << 24, 1 << 31])),
+            8 => add(f, entry + 8, self.pick(&[1, 2, u64::MAX, 1 << 8, 1 << 16, 1 << 24])),
+            // twice the length, or the start to it, is over 2^32, and the rest is right or fits
+            9 => add(f, entry + 8, 1 << 31),
+            10 => set(f, entry + 8, 4, (1 << 31) - 1 - self.below(size) as u64 / 2),
+            // one row gets symbols of the next, and the start between them is right
+            11 => {
+                let d = self.pick(&[1, 2, u64::MAX]);
+                add(f, entry + 8, d);
+                if i + 1 < n {
+                    add(f, entry + 16, d.wrapping_mul(2));
+                    add(f, entry + 20, d.wrapping_neg());
+                }
+            }
+            // a symbol
+            _ => {
+                let at = rows_at(n, s) + self.below(size - rows_at(n, s));
+                f[at] ^= 1 << self.below(8);
+            }
+        }
+    }
+
+    // One fault of what is given to write beside the alphabet, or none that shows.
+    fn damage_given(&mut self, numbers: &mut Vec<u32>, lengths: &mut Vec<u32>, rows: &mut Vec<u16>) {
+        let n = lengths.len();
+        if n == 0 {
+            return match self.below(3) {
+                0 => rows.push(0),
+                1 => lengths.push(self.pick(&[0, 1, u32::MAX])),
+                _ => numbers.push(7),
+            };
+        }
+        let (i, j) = (self.below(n), self.below(n));
+        let d = self.pick(&[1, 2, 5]);
+        match self.below(10) {
+            0 => drop(lengths.remove(i)),
+            1 => lengths.insert(i, self.pick(&[0, 0, 1, 3])),
+            2 => drop(rows.pop()),
+            3 => rows.push(0),
+            4 => lengths[i] = lengths[i].wrapping_add(self.pick(&[1, u32::MAX, 256, 65536, 1 << 31])),
+            // the sum is over 2^32, and what 32 bits leave of it is right
+            5 => {
+                lengths[i] = lengths[i].wrapping_sub(d);
+                lengths[j] = lengths[j].wrapping_add(d);
+            }
+            6 if i != j => {
+                lengths[i] = lengths[i].wrapping_add(1 << 31);
+                lengths[j] = lengths[j].wrapping_add(1 << 31);
+            }
+            // other rows, with the right sum
+            7 | 8 => {
+                let d = d.min(lengths[i]);
+                lengths[i] -= d;
+                lengths[j] += d;
+            }
+            _ => drop(numbers.remove(self.below(numbers.len()))),
+        }
+    }
+}
+
 // ---- the test --------------------------------------------------------------------------------------------------------------
 
 struct Test {
@@ -675,11 +1058,14 @@ struct Test {
     seed: u64,
     input: u64,
     answered: u64,
-    refused: [u64; 65],
+    refused: [u64; 89],
     in_sheets: [u64; 16], // patterns of answered sheets, by their refusal or 0
     short: [u64; 2],      // sheets refused with 19: for the results, for the positions
     wrong: Option<Wrong>,             // how the classes of the next input are made wrong
     misclassed: [u64; WRONGS.len()], // inputs refused with 62, by how
+    on_files: [[u64; 89]; 2],        // files read and files written, by their refusal or 0
+    causes: [u64; CAUSES.len()],     // those refused with 68, by why
+    worked: bool,                    // the worked file has been changed at every byte
 }
 
 // What a host keeps, mostly right, and whether it is.
@@ -697,6 +1083,11 @@ fn shown(b: &[u8]) -> String {
     format!("{} bytes: {}{}", b.len(), short.join(" "), if n.len() > 60 { " .." } else { "" })
 }
 
+fn shown_bytes(b: &[u8]) -> String {
+    let short: Vec<String> = b.iter().take(120).map(|x| format!("{x:02x}")).collect();
+    format!("{} bytes: {}{}", b.len(), short.join(" "), if b.len() > 120 { " .." } else { "" })
+}
+
 impl Test {
     // One input: the archive and the model answer alike and leave the same bytes. The buffers are as the call left them.
     fn hold(&mut self, call: u32, x: &mut Lent) -> Result<Answer, String> {
@@ -704,12 +1095,14 @@ impl Test {
         let given = x.clone();
         let mut wanted = x.clone();
         let told = match call {
-            BUILD => model_build(&mut wanted),
-            FIND => model_find(&mut wanted),
-            SHEET => model_sheet(&mut wanted),
-            _ => model_replace(&mut wanted),
+            BUILD => model_build(&mut wanted).map_err(of_no_programme),
+            FIND => model_find(&mut wanted).map_err(of_no_programme),
+            SHEET => model_sheet(&mut wanted).map_err(of_no_programme),
+            CATALOGUE_READ => model_read(&mut wanted),
+            CATALOGUE_WRITE => model_write(&mut wanted),
+            _ => model_replace(&mut wanted).map_err(of_no_programme),
         };
-        let want = told.unwrap_or_else(|(refusal, place)| Answer { refusal, place, ..Answer::default() });
+        let want = told.unwrap_or_else(|((refusal, place), programme)| Answer { refusal, place, programme, ..Answer::default() });
         let shift = self.dice.below(2) as u32;
         let (got, damage) = self.server.call(call, shift, x);
         if want.refusal == 0 {
@@ -717,20 +1110,28 @@ impl Test {
         } else {
             self.refused[want.refusal as usize] += 1;
         }
+        if call >= CATALOGUE_READ {
+            self.on_files[(call - CATALOGUE_READ) as usize][want.refusal as usize] += 1;
+            if want.refusal == 68 {
+                self.causes[cause(call, &given, want.place)] += 1;
+            }
+        }
         if let (62, Some(wrong)) = (want.refusal, self.wrong.take()) {
             self.misclassed[wrong as usize] += 1;
         }
         if got == want && *x == wanted && !damage {
             return Ok(got);
         }
-        let mut s = format!("FAILED: seed {}, input {}, call {}\n", self.seed, self.input, ["", "build", "find", "replace", "sheet"][call as usize]);
+        let mut s = format!("FAILED: seed {}, input {}, call {}\n", self.seed, self.input, NAMES[call as usize]);
         s += &format!("  arities {}\n  row {}\n", shown(&given.arities), shown(&given.row));
         s += &format!("  table {}\n  classes {}\n", shown(&given.table), shown(&given.classes));
         s += &format!("  patterns or replacement {}\n  lengths {}\n", shown(&given.other), shown(&given.lengths));
         s += &format!("  output {}\n  results {}\n", shown(&given.out), shown(&given.results));
+        s += &format!("  numbers {}\n  file {}\n  records {}\n", shown(&given.numbers), shown_bytes(&given.file), shown(&given.entries));
         s += &format!("  row length {}, position {}\n  wanted {:?}\n  got    {:?}\n", given.length, given.position, want, got);
         s += &format!("  row {}, table {}, classes {}", x.row == wanted.row, x.table == wanted.table, x.classes == wanted.classes);
-        s += &format!(", output {}, results {}, other bytes {}", x.out == wanted.out, x.results == wanted.results, !damage);
+        s += &format!(", output {}, results {}, file {}", x.out == wanted.out, x.results == wanted.results, x.file == wanted.file);
+        s += &format!(", records {}, other bytes {}", x.entries == wanted.entries, !damage);
         Err(s)
     }
 
@@ -1024,6 +1425,116 @@ impl Test {
         }
         Ok(())
     }
+
+    // A buffer for what takes n elements of so many bytes: with just room, with more, or with less.
+    fn room(&mut self, n: usize, width: usize) -> Vec<u8> {
+        let d = &mut self.dice;
+        let less = if d.one_in(40) { d.below(n + 1) } else { n.saturating_sub(1) };
+        let room = d.pick(&[n, n, n, n, n, n, n + 1, n + 1, n + 2, n + 40, less]);
+        d.buffer(&[], width * room)
+    }
+
+    // A file that was read is written again, from what the records say: the same bytes.
+    fn written_again(&mut self, x: &Lent) -> Result<(), String> {
+        let (entries, n) = (wides(&x.entries), wide(&x.file[..2]) as usize);
+        let field = |k: usize| four_bytes(entries.chunks(3).take(n).map(|e| e[k] as u32));
+        let (begin, end) = (4 + 12 * n, rows_at(n, wide(&x.file[2..4]) as usize));
+        let arities: Vec<u16> = x.file[begin..end].iter().map(|&a| a as u16).collect();
+        let rows: Vec<u8> = entries.chunks(3).take(n).flat_map(|e| x.file[e[1] as usize..(e[1] + 2 * e[2]) as usize].to_vec()).collect();
+        let mut y = Lent { arities: self.dice.lend(&arities), row: rows, numbers: field(0), lengths: field(2), ..Lent::default() };
+        y.file = self.dice.buffer(&[], x.file.len());
+        let a = self.hold(CATALOGUE_WRITE, &mut y)?;
+        if a.refusal != 0 || y.file != x.file {
+            return Err(format!("FAILED: seed {}, input {}: a file that was read is not written again", self.seed, self.input));
+        }
+        Ok(())
+    }
+
+    // What was written is read: the records are those of the catalogue, and each row stands where its record says.
+    fn read_again(&mut self, x: &Lent, size: usize) -> Result<(), String> {
+        let mut y = Lent { file: x.file[..size].to_vec(), entries: self.dice.buffer(&[], 3 * x.numbers.len()), ..Lent::default() };
+        let a = self.hold(CATALOGUE_READ, &mut y)?;
+        let mut left = &x.row[..];
+        let said = wides(&x.numbers).into_iter().zip(wides(&x.lengths));
+        let same = wides(&y.entries).chunks(3).zip(said).all(|(e, (number, length))| {
+            let (row, rest) = left.split_at(2 * length as usize);
+            left = rest;
+            e[0] == number && e[2] == length && y.file[e[1] as usize..].starts_with(row)
+        });
+        if a.refusal != 0 || a.count as usize != x.numbers.len() / 4 || !same {
+            return Err(format!("FAILED: seed {}, input {}: what was written is not read again", self.seed, self.input));
+        }
+        Ok(())
+    }
+
+    fn files(&mut self) -> Result<(), String> {
+        let d = &mut self.dice;
+        let full = d.one_in(150);
+        let mut c = d.catalogue(full);
+        let right = d.one_in(3);
+        for _ in 0..if right { 0 } else { d.pick(&[0, 0, 1, 2]) } {
+            d.damage_catalogue(&mut c);
+        }
+        let mut f = file_of(&c);
+        let (n, s) = (c.programmes.len(), c.arities.len());
+        for _ in 0..if right || s == 0 { 0 } else { d.pick(&[0, 1, 1, 2]) } {
+            if f.len() >= rows_at(n, s) + (n > 0) as usize {
+                d.damage_file(&mut f, n, s);
+            }
+        }
+        self.reads(f, n)
+    }
+
+    fn catalogues(&mut self) -> Result<(), String> {
+        let d = &mut self.dice;
+        let full = d.one_in(150);
+        let mut c = d.catalogue(full);
+        let right = d.one_in(3);
+        for _ in 0..if right { 0 } else { d.pick(&[0, 1, 1, 2]) } {
+            d.damage_catalogue(&mut c);
+        }
+        let mut numbers: Vec<u32> = c.programmes.iter().map(|p| p.0).collect();
+        let mut lengths: Vec<u32> = c.programmes.iter().map(|p| p.1.len() as u32).collect();
+        let mut rows: Vec<u16> = c.programmes.iter().flat_map(|p| p.1.clone()).collect();
+        if !right && d.one_in(2) {
+            d.damage_given(&mut numbers, &mut lengths, &mut rows);
+        }
+        let size = rows_at(numbers.len(), c.arities.len()) + 2 * rows.len();
+        let (arities, row) = (d.lend(&c.arities), d.lend(&rows));
+        let (numbers, lengths) = (four_bytes(numbers.into_iter()), four_bytes(lengths.into_iter()));
+        let mut x = Lent { arities, row, numbers, lengths, file: self.room(size, 1), ..Lent::default() };
+        let a = self.hold(CATALOGUE_WRITE, &mut x)?;
+        if a.refusal == 0 { self.read_again(&x, size) } else { Ok(()) }
+    }
+
+    // A file is read, and if it was answered, written again.
+    fn reads(&mut self, file: Vec<u8>, programmes: usize) -> Result<(), String> {
+        let mut x = Lent { file, entries: self.room(programmes, 12), ..Lent::default() };
+        let a = self.hold(CATALOGUE_READ, &mut x)?;
+        if a.refusal == 0 { self.written_again(&x) } else { Ok(()) }
+    }
+
+    // A small file, cut at every byte, and with each byte in turn changed: the worked one first, to every value, then others, to some.
+    fn changed_files(&mut self) -> Result<(), String> {
+        let every = !self.worked;
+        self.worked = true;
+        let worked = [(7, vec![4, 3, 0, 0, 2, 1, 3, 0, 0]), (900, vec![1])];
+        let c = if every { Catalogue { arities: vec![0, 0, 1, 2, 3], programmes: worked.into() } } else { self.dice.small_catalogue() };
+        let (f, n) = (file_of(&c), c.programmes.len());
+        for bytes in 0..=f.len() {
+            self.reads(f[..bytes].to_vec(), n)?;
+        }
+        for at in 0..f.len() {
+            let mut values: Vec<u8> = if every { (0..=255).collect() } else { (0..8).map(|k| f[at] ^ (1 << k)).collect() };
+            values.extend([0, 255, f[at].wrapping_add(1), f[at].wrapping_sub(1), c.arities.len() as u8]);
+            for value in values {
+                let mut g = f.clone();
+                g[at] = value;
+                self.reads(g, n)?;
+            }
+        }
+        Ok(())
+    }
 }
 
 fn number(words: &mut Vec<String>, flag: &str, default: u64) -> u64 {
@@ -1047,18 +1558,24 @@ fn test() -> bool {
         seed,
         input: 0,
         answered: 0,
-        refused: [0; 65],
+        refused: [0; 89],
         in_sheets: [0; 16],
         short: [0; 2],
         wrong: None,
         misclassed: [0; WRONGS.len()],
+        on_files: [[0; 89]; 2],
+        causes: [0; CAUSES.len()],
+        worked: false,
     };
-    let kinds: [(&str, fn(&mut Test) -> Result<(), String>); 5] = [
+    let kinds: [(&str, fn(&mut Test) -> Result<(), String>); 8] = [
         ("build", Test::builds),
         ("find", Test::finds),
         ("replace", Test::replaces),
         ("runs of replacements, put back", Test::runs),
         ("sheet", Test::sheets),
+        ("catalogue read", Test::files),
+        ("catalogue write", Test::catalogues),
+        ("small files, cut and changed at every byte", Test::changed_files), // the last: it may take more than its share
     ];
     let (mut passed, mut failed) = (0, 0);
     for (i, (name, kind)) in kinds.iter().enumerate() {
@@ -1103,6 +1620,20 @@ fn test() -> bool {
             failed += 1;
         }
     }
+    let of_files = [vec![0, 66, 65, 88, 1, 2, 3, 67, 68, 69, 4, 5, 7, 8, 9, 19], vec![0, 88, 1, 2, 3, 67, 68, 66, 4, 5, 7, 8, 9, 19]];
+    for (of_call, met) in of_files.iter().zip(&t.on_files) {
+        match of_call.iter().find(|&&r| met[r] == 0) {
+            None if t.causes.iter().all(|&n| n > 0) => passed += 1,
+            None => {
+                println!("FAILED: seed {seed}: 68 was not given for each of its causes");
+                failed += 1;
+            }
+            Some(r) => {
+                println!("FAILED: seed {seed}: no file or catalogue has {r} as its refusal");
+                failed += 1;
+            }
+        }
+    }
     match WRONGS.iter().find(|&&wrong| t.misclassed[wrong as usize] == 0) {
         None => passed += 1,
         Some(wrong) => {
@@ -1114,6 +1645,12 @@ fn test() -> bool {
     println!("seed {seed}: {} inputs, {} answered, refused by number {}", t.input, t.answered, told.join(", "));
     let told: Vec<String> = in_a_sheet.iter().map(|&r| format!("{r}: {}", t.in_sheets[r])).collect();
     println!("patterns of answered sheets, by refusal {}; 19 for results {}, for positions {}", told.join(", "), t.short[0], t.short[1]);
+    for ((what, of_call), met) in ["read", "written"].iter().zip(&of_files).zip(&t.on_files) {
+        let told: Vec<String> = of_call.iter().map(|&r| format!("{r}: {}", met[r])).collect();
+        println!("catalogues {what}, by refusal {}", told.join(", "));
+    }
+    let told: Vec<String> = CAUSES.iter().zip(t.causes).map(|(why, n)| format!("{why} {n}")).collect();
+    println!("68 for {}", told.join(", "));
     println!("{passed} passed, {failed} failed");
     failed == 0
 }

@@ -271,8 +271,8 @@ pub fn replace(
 ) -> Answer
     ensures { λ r. ⌜ ReplacedBytes (alphabetOf (numbers (now (arities .entry)))) (lent (now (row .entry)) (now (table .entry)) (now (classes .entry))) n (numbers (now (replacement .entry))) position r (lent (now (row .exit)) (now (table .exit)) (now (classes .exit))) ⌝ }
 {
-    if wire::count(arities) <= c_lent::SMALL {
-        let mut a = c_lent::small_room();
+    if wire::count(arities) <= wire::SMALL {
+        let mut a = wire::small_room();
         return replace_under(
             arities,
             row,
@@ -284,7 +284,7 @@ pub fn replace(
             &mut a,
         );
     }
-    let mut a = c_lent::alphabet_room();
+    let mut a = wire::alphabet_room();
     replace_under(
         arities,
         row,

@@ -209,10 +209,10 @@ pub fn find(
 ) -> Answer
     ensures { λ r. ⌜ FoundBytes (alphabetOf (numbers (now (arities .entry)))) (numbersOf (lent (now (row .entry)) (now (table .entry)) (now (classes .entry)))) (numbers (now (pattern .entry))) (now (out .entry)) r (now (out .exit)) ⌝ }
 {
-    if wire::count(arities) <= c_lent::SMALL {
-        let mut a = c_lent::small_room();
+    if wire::count(arities) <= wire::SMALL {
+        let mut a = wire::small_room();
         return find_sized(arities, row, table, classes, pattern, out, &mut a);
     }
-    let mut a = c_lent::alphabet_room();
+    let mut a = wire::alphabet_room();
     find_sized(arities, row, table, classes, pattern, out, &mut a)
 }

@@ -11,10 +11,6 @@ use Rattle.rows.specs.declared.Refusal.the-variants.{Row}
 use Rattle.rows.specs.declared.Check.{Check}
 use Rattle.rows.specs.declared.Check.the-variants.{Fine}
 
--- an alphabet of at most so many symbols is small
-abbrev pub small : ℕ
-small = 256
-
 -- refusals 1 to 6, for a row of n numbers in and beside lists of which the shortest has `places` places
 abbrev pub sizesCheck : Alphabet → ℕ → ℕ → Check
 sizesCheck a n places = alphabet a then sizes Row n places

@@ -6,27 +6,11 @@ ghost use Rattle.rows.specs.Limits.{alphabetMost};
 ghost use Rattle.rows.specs.Programme.{alphabetOf};
 ghost use Rattle.rows.specs.Refusals.{alphabet};
 ghost use Rattle.wire.specs.Wire.{numbers};
-ghost use Rattle.c_lent.specs.Reading.{small, sizesCheck, Read};
+ghost use Rattle.c_lent.specs.Reading.{sizesCheck, Read};
 use rows::Arities;
 use rows::Check;
 use rows::Keeping;
 use rows::Refusal;
-
-// An alphabet of at most so many symbols is small: its room is sooner cleared.
-pub const SMALL: usize = 256;
-
-pub fn small_room() -> [u16; SMALL]
-    ensures { λ r. ⌜ small ≡ length r ⌝ }
-{
-    [0u16; SMALL]
-}
-
-// Room for the longest alphabet.
-pub fn alphabet_room() -> [u16; rows::ALPHABET_MOST]
-    ensures { λ r. ⌜ alphabetMost ≡ length r ⌝ }
-{
-    [0u16; rows::ALPHABET_MOST]
-}
 
 // Refusals 1, 2 and 3; where there is none, the arities stand at the front of `room`.
 fn read_alphabet(arities: &[u8], room: &mut [u16]) -> Check

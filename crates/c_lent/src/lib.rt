@@ -5,13 +5,9 @@ use rows::Refusal;
 
 mod alphabet;
 mod fill;
-mod scan;
 mod table;
 
-pub use alphabet::SMALL;
-pub use alphabet::alphabet_room;
 pub use alphabet::read_sizes;
-pub use alphabet::small_room;
 pub use table::build;
 
 // An answer, as it crosses. `refusal` is 0 or the number of the refusal (docs/SCOPE.md).

@@ -23,7 +23,7 @@ fn check_symbols(arities: &[u16], row: &[u8]) -> Check
     requires { ⌜ length (numbers (now row)) ≤ rowMost ⌝ }
     ensures { λ r. ⌜ r ≡ symbols Row (now (arities .entry)) (numbers (now (row .entry))) ⌝ }
 {
-    match crate::scan::check_row(arities, row) {
+    match wire::check_row(arities, row) {
         Verdict::Faulty(f) => Check::Refused(Refusal::Row(Kept::Misread(f))),
         Verdict::Whole => Check::Fine,
     }

@@ -273,7 +273,7 @@ fn sheet_short(
     requires { ⌜ length (numbers (now row)) ≤ short ⌝ }
     ensures { λ r. ⌜ SheetBytes (alphabetOf (numbers (now (arities .entry)))) (numbersOf (lent (now (row .entry)) (now (table .entry)) (now (classes .entry)))) (numbers (now (patterns .entry))) (numbers (now (lengths .entry))) (now (positions .entry)) (now (results .entry)) r (now (positions .exit)) (now (results .exit)) ⌝ }
 {
-    let mut a = c_lent::alphabet_room();
+    let mut a = wire::alphabet_room();
     let mut w = tables::short_room();
     let mut t = tables::short_room();
     let mut c = tables::short_room();
@@ -310,7 +310,7 @@ fn sheet_long(
 ) -> Answer
     ensures { λ r. ⌜ SheetBytes (alphabetOf (numbers (now (arities .entry)))) (numbersOf (lent (now (row .entry)) (now (table .entry)) (now (classes .entry)))) (numbers (now (patterns .entry))) (numbers (now (lengths .entry))) (now (positions .entry)) (now (results .entry)) r (now (positions .exit)) (now (results .exit)) ⌝ }
 {
-    let mut a = c_lent::alphabet_room();
+    let mut a = wire::alphabet_room();
     if wire::count(row) <= tables::FAIR {
         let mut w = tables::fair_room();
         let mut t = tables::fair_room();

@@ -1,6 +1,7 @@
 // Runs the cases of the file `stdin`: the worked programmes of docs/SCOPE.md, the sizes at their limits and the refusals. Each is
 // one of the public calls, and what it answers and leaves in its buffers is printed.
 mod calling;
+mod filing;
 mod replacing;
 mod sheet;
 
@@ -20,6 +21,9 @@ fn call(letter: u8, case: &[u16], buffer: &mut [u16]) {
         b'w' => calling::newer(case),
         b'a' => calling::plain(case),
         b'c' => calling::each(case),
+        b'l' => filing::file(case),
+        b'm' => filing::symbols(case, buffer),
+        b't' => filing::entry(case, buffer),
         _ => {
             text(b"no such call\n");
         }

@@ -47,19 +47,32 @@ use Rattle.promises.proofs.Demand1.{pair, build-one, find-one, replace-one}
 use Rattle.promises.proofs.Demand2.{find-lists}
 use Rattle.promises.proofs.Sheeting.{sheet-one, sheet-refused}
 use Rattle.promises.proofs.Demand3.{after-run, putting-back}
+use Rattle.promises.proofs.Catalogues.{read-one, write-one, read-refused, write-refused}
 use Rattle.wire.specs.Wire.{numbers, bytesOf}
 use Rattle.wire.proofs.Numbers.{write-read}
+use Rattle.catalogue.specs.declared.Entry.{Entry}
+use Rattle.catalogue_read.specs.Answers.{Reads}
+use Rattle.catalogue_read.specs.declared.Opened.{Opened}
+use Rattle.catalogue_read.specs.declared.Opened.the-variants.{Holds, Refused as Unread}
+use Rattle.catalogue_write.specs.Answers.{Writes}
+use Rattle.catalogue_write.specs.declared.Filed.{Filed}
+use Rattle.catalogue_write.specs.declared.Filed.the-variants.{Bytes, Refused as Unfiled}
+use Rattle.c_catalogue.specs.Answer.{readAnswer, writeAnswer}
+use Rattle.c_catalogue.specs.declared.CatalogueAnswer.{CatalogueAnswer}
 use Rattle.c_lent.specs.Answer.{buildAnswer, findAnswer, sheetAnswer, replaceAnswer}
 use Rattle.c_lent.specs.Lent.{Lent, numbersOf, beside, rewritten}
 use Rattle.c_lent.specs.declared.Answer.{Answer}
 use Rattle.c_lent.proofs.Lists.{beside-same, rewritten-same}
 use Rattle.host.specs.Runs.{heldNumbers}
-use Rattle.host.specs.Promises.{Zero-tells, Build-for-C-one, Find-for-C-one, Sheet-for-C-one, Replace-for-C-one, Build-for-C-refused, Find-for-C-refused, Sheet-for-C-refused, Replace-for-C-refused, FoundNumbers, Build-crosses, Find-crosses, Sheet-crosses, Replace-crosses, Run-for-C, Putting-back-for-C, Find-after-build-for-C}
+use Rattle.host.specs.Promises.{Zero-tells, Zero-tells-of-files, Build-for-C-one, Find-for-C-one, Sheet-for-C-one, Replace-for-C-one, Read-for-C-one, Write-for-C-one, Build-for-C-refused, Find-for-C-refused, Sheet-for-C-refused, Replace-for-C-refused, Read-for-C-refused, Write-for-C-refused, FoundNumbers, Build-crosses, Find-crosses, Sheet-crosses, Replace-crosses, Run-for-C, Putting-back-for-C, Find-after-build-for-C}
 use Rattle.host.proofs.Crossing as crossing
 use Rattle.host.proofs.Running.{refusal-tells, build-answered, find-answered, replace-answered, run-crosses}
 
 pub zero-tells : Zero-tells
 zero-tells = refusal-tells
+
+pub zero-tells-of-files : Zero-tells-of-files
+zero-tells-of-files = refusal-tells
 
 -- ---- one outcome
 
@@ -104,6 +117,26 @@ replace-for-c-one a b n v p =
       only = λ x c. pair x (say (c .outcome, c .left)) (c .answer, c .bytes) ∙ ap say (one .only (c .outcome, c .left) (c .call));
     }
 
+pub read-for-c-one : Read-for-C-one
+read-for-c-one f es =
+    let one = read-one f es in
+    let say : Opened × List Entry → CatalogueAnswer × List Entry = λ x. (readAnswer (x .0), x .1) in
+    record {
+      some = say (one .some);
+      holds = record { outcome = one .some .0; call = one .holds; answer = refl };
+      only = λ x c. pair x (say (c .outcome, x .1)) (c .answer, refl) ∙ ap say (one .only (c .outcome, x .1) (c .call));
+    }
+
+pub write-for-c-one : Write-for-C-one
+write-for-c-one A ns ls w b =
+    let one = write-one A ns ls w b in
+    let say : Filed × List ℕ → CatalogueAnswer × List ℕ = λ x. (writeAnswer (x .0), x .1) in
+    record {
+      some = say (one .some);
+      holds = record { outcome = one .some .0; call = one .holds; answer = refl };
+      only = λ x c. pair x (say (c .outcome, x .1)) (c .answer, refl) ∙ ap say (one .only (c .outcome, x .1) (c .call));
+    }
+
 -- ---- refusals
 
 pub build-for-c-refused : Build-for-C-refused
@@ -138,6 +171,20 @@ replace-for-c-refused a b n v p r b′ small c not = go (c .outcome) (c .call) (
     go : (o : Replaced) → Replacement a (numbersOf b) n v p o (c .left) → r ≡ replaceAnswer o → b′ ≡ b
     go (Done m d) o e = absurd (not (ap (λ (x : Answer). x .refusal) e))
     go (Unreplaced x) o e = c .bytes ∙ ap (rewritten b) (stayed a (numbersOf b) n v p (c .left) x o) ∙ rewritten-same b small
+
+pub read-for-c-refused : Read-for-C-refused
+read-for-c-refused f es r es′ c not = go (c .outcome) (c .call) (c .answer)
+  where
+    go : (o : Opened) → Reads f es o es′ → r ≡ readAnswer o → es′ ≡ es
+    go (Holds n s) d e = absurd (not (ap (λ (x : CatalogueAnswer). x .refusal) e))
+    go (Unread x) d e = read-refused f es x es′ d
+
+pub write-for-c-refused : Write-for-C-refused
+write-for-c-refused A ns ls w b r b′ c not = go (c .outcome) (c .call) (c .answer)
+  where
+    go : (o : Filed) → Writes A ns ls w b o b′ → r ≡ writeAnswer o → b′ ≡ b
+    go (Bytes n) d e = absurd (not (ap (λ (x : CatalogueAnswer). x .refusal) e))
+    go (Unfiled x) d e = write-refused A ns ls w b x b′ d
 
 -- ---- what crosses
 

@@ -23,7 +23,7 @@ use Rattle.sparrowhem.specs.declared.edit.Replaced.the-variants.{Done, Refused 
 use Rattle.promises.specs.Runs.{Call, Run, lengthAfter, edit, edits}
 use Rattle.c_lent.specs.Answer.{refused, buildAnswer, findAnswer, replaceAnswer}
 use Rattle.c_lent.specs.declared.Answer.{Answer}
-use Rattle.c_lent.proofs.Crossing.{number-few}
+use Rattle.refusal_numbers.proofs.Few.{number-few}
 use Rattle.host.specs.Runs.{StateForC, CallForC, RunForC, heldNumbers, ifAnswered, editsForC}
 use Rattle.host.proofs.Crossing.{replace-crosses}
 

@@ -1,5 +1,7 @@
 -- The promises on the calls for C. Each is proved in proofs/Promises, under the same name in small letters.
 --
+-- Of catalogue files the contracts say themselves that the Rattle calls' outcomes cross as they are; a file is bytes in both.
+--
 -- a is the alphabet, b the bytes that are lent for a row and what is kept beside it, q the pattern's numbers, qs and ls those of a sheet's
 -- patterns and of their lengths, out and res the bytes of outputs, r and s are answers; in a replacement n is the row length, v the
 -- replacement's numbers and p the position. ′ marks what the bytes are afterwards. The contract of each exported function
@@ -29,11 +31,18 @@ use Rattle.c_lent.specs.Answer.{granted, refused, buildAnswer, findAnswer, shee
 use Rattle.c_lent.specs.Lent.{Lent, AreBytes, numbersOf}
 use Rattle.c_lent.specs.Calls.{BuiltBytes, FoundBytes, SheetBytes, ReplacedBytes}
 use Rattle.c_lent.specs.declared.Answer.{Answer}
+use Rattle.catalogue.specs.declared.Entry.{Entry}
+use Rattle.c_catalogue.specs.Answer.{refused as fileRefused}
+use Rattle.c_catalogue.specs.Calls.{FileRead, FileWritten}
+use Rattle.c_catalogue.specs.declared.CatalogueAnswer.{CatalogueAnswer}
 use Rattle.host.specs.Runs.{StateForC, CallForC, RunForC, heldNumbers, editsForC}
 
 -- A refusal's number is never 0: 0 tells that a call has answered.
 abbrev pub Zero-tells : Type 0
 Zero-tells = (x : Refusal) → refused x .refusal ≡ 0 → ⊥
+
+abbrev pub Zero-tells-of-files : Type 0
+Zero-tells-of-files = (x : Refusal) → fileRefused x .refusal ≡ 0 → ⊥
 
 -- For every input there is one outcome that the contract admits, and no other: the four numbers of the answer, and every byte of
 -- the written buffers.
@@ -50,6 +59,12 @@ Sheet-for-C-one = (a : Alphabet) (P : Programme) (qs ls out res : List ℕ)
 abbrev pub Replace-for-C-one : Type 0
 Replace-for-C-one = (a : Alphabet) (b : Lent) (n : ℕ) (v : List ℕ) (p : ℕ) → One {X = Answer × Lent} (λ x. ReplacedBytes a b n v p (x .0) (x .1))
 
+abbrev pub Read-for-C-one : Type 0
+Read-for-C-one = (f : List ℕ) (es : List Entry) → One {X = CatalogueAnswer × List Entry} (λ x. FileRead f es (x .0) (x .1))
+
+abbrev pub Write-for-C-one : Type 0
+Write-for-C-one = (A ns ls w b : List ℕ) → One {X = CatalogueAnswer × List ℕ} (λ x. FileWritten A ns ls w b (x .0) (x .1))
+
 -- A call that refuses has written no byte.
 abbrev pub Build-for-C-refused : Type 0
 Build-for-C-refused = (a : Alphabet) (b : Lent) (r : Answer) (b′ : Lent) → AreBytes b → BuiltBytes a b r b′ → (r .refusal ≡ 0 → ⊥) → b′ ≡ b
@@ -65,6 +80,12 @@ Sheet-for-C-refused = (a : Alphabet) (P : Programme) (qs ls out res : List ℕ) 
 abbrev pub Replace-for-C-refused : Type 0
 Replace-for-C-refused = (a : Alphabet) (b : Lent) (n : ℕ) (v : List ℕ) (p : ℕ) (r : Answer) (b′ : Lent) → AreBytes b → ReplacedBytes a b n v p r b′
     → (r .refusal ≡ 0 → ⊥) → b′ ≡ b
+
+abbrev pub Read-for-C-refused : Type 0
+Read-for-C-refused = (f : List ℕ) (es : List Entry) (r : CatalogueAnswer) (es′ : List Entry) → FileRead f es r es′ → (r .refusal ≡ 0 → ⊥) → es′ ≡ es
+
+abbrev pub Write-for-C-refused : Type 0
+Write-for-C-refused = (A ns ls w b : List ℕ) (r : CatalogueAnswer) (b′ : List ℕ) → FileWritten A ns ls w b r b′ → (r .refusal ≡ 0 → ⊥) → b′ ≡ b
 
 -- WHAT CROSSES. The bytes before a call and the bytes after it, both read as numbers, are what the Rattle call is lent and what it
 -- leaves, and the four numbers are those of its answer. So all that is promised of the Rattle calls (crates/promises/specs/Demands)

@@ -1,10 +1,13 @@
-// Build, find, sheet and replace for C, as include/sparrowhem.h declares them. Nothing is asked of the caller but what that header
+// The calls for C, as include/sparrowhem.h declares them. Nothing is asked of the caller but what that header
 // says: a pointer leads to as many bytes as its count says, and no buffer that is written overlaps another.
 ghost use Rattle.rows.specs.Programme.{alphabetOf};
 ghost use Rattle.wire.specs.Wire.{numbers};
 ghost use Rattle.c_lent.specs.Lent.{lent, numbersOf};
 ghost use Rattle.c_lent.specs.Calls.{BuiltBytes, FoundBytes, SheetBytes, ReplacedBytes};
+ghost use Rattle.c_catalogue.specs.Calls.{FileRead, FileWritten};
+use c_catalogue::CatalogueAnswer;
 use c_lent::Answer;
+use catalogue::Entry;
 
 #[no_mangle]
 pub extern "C" fn sparrowhem_build(
@@ -78,4 +81,27 @@ pub extern "C" fn sparrowhem_replace(
         replacement,
         position as usize,
     )
+}
+
+#[no_mangle]
+pub extern "C" fn sparrowhem_catalogue_read<'a, 'b>(
+    file: &'a [u8],
+    entries: &'b mut [Entry],
+) -> CatalogueAnswer
+    ensures { λ r. ⌜ FileRead (now (file .entry)) (now (entries .entry)) r (now (entries .exit)) ⌝ }
+{
+    c_catalogue::read_answer(catalogue_read::read_catalogue(file, entries))
+}
+
+#[no_mangle]
+pub extern "C" fn sparrowhem_catalogue_write(
+    arities: &[u8],
+    programmes: &[u32],
+    lengths: &[u32],
+    rows: &[u8],
+    file: &mut [u8],
+) -> CatalogueAnswer
+    ensures { λ r. ⌜ FileWritten (numbers (now (arities .entry))) (now (programmes .entry)) (now (lengths .entry)) (numbers (now (rows .entry))) (now (file .entry)) r (now (file .exit)) ⌝ }
+{
+    c_catalogue::write(arities, programmes, lengths, rows, file)
 }

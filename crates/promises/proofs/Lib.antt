@@ -10,4 +10,5 @@ pub mod Demand2
 pub mod Demand3
 pub mod Sheeting
 pub mod Demands
+pub mod Catalogues
 pub mod Worked

@@ -1,10 +1,9 @@
 -- The table of worked programmes, computed: in each line the one outcome of the call is the one that stands there.
 -- Assumes nothing.
-use Prim.Native.Nat.{ℕ}
 use mathlib.Core.Path.{_≡_, refl, subst}
-use mathlib.Core.List.{List, [], _∷_, _++_}
+use mathlib.Core.List.{[], _∷_, _++_}
 use Rattle.rows.specs.Tree.{size, prefix, ends, subtrees}
-use Rattle.rows.specs.Programme.{Alphabet, Programme, programme}
+use Rattle.rows.specs.Programme.{programme}
 use Rattle.rows.specs.Parse.{first, rest, over, parse, table}
 use Rattle.rows.specs.Classes.{alike, placeOf, classesOf, classes}
 use Rattle.rows.specs.Row.{verdict, sized, reading}
@@ -14,7 +13,7 @@ use Rattle.rows.specs.Refusals.{alphabetSize, aritiesFit, someLeaf, alphabet, s
 use Rattle.rows.specs.declared.Fault.the-variants.{Stray, Early, Extra}
 use Rattle.rows.specs.declared.Kept.the-variants.{Misread, Stale, Misclassed}
 use Rattle.rows.specs.declared.Refusal.{Refusal}
-use Rattle.rows.specs.declared.Refusal.the-variants.{Row, OutputShort}
+use Rattle.rows.specs.declared.Refusal.the-variants.{Row, OutputShort, Programme as OfProgramme}
 use Rattle.rows.specs.declared.Check.the-variants.{Fine, Refused}
 use Rattle.patterns.specs.Pattern.{leaf}
 use Rattle.patterns.specs.Answers.{faced, span, spansBelow}
@@ -27,9 +26,17 @@ use Rattle.sparrowhem.specs.declared.search.Found.the-variants.{Matches, Refuse
 use Rattle.sparrowhem.specs.declared.search.Bound.the-variants.{Matched, Refused as BindRefused}
 use Rattle.sparrowhem.specs.declared.search.SheetFound.the-variants.{Matches as SheetMatches, Refused as SheetRefused}
 use Rattle.sparrowhem.specs.declared.edit.Replaced.the-variants.{Done, Refused as Unreplaced}
-use Rattle.promises.specs.Worked.{A, T, T-built, T-stale, T-misclassed, T-with-3-0-1, T-with-1, places, S, X0, spans-of-X0, ends-of-T, classes-of-T, four-patterns, four-lengths, Worked}
+use Rattle.wire.specs.Wire.{numbers, bytesOf}
+use Rattle.catalogue.specs.Catalogue.{halves, contents, entries, rows, firstRow, opening, fileOf}
+use Rattle.catalogue.specs.Reading.{wide, entryAt, entriesOf, programmesIn, symbolsIn, entriesIn, aritiesIn, firstRowIn, rowIn, programmeIn, catalogueIn}
+use Rattle.catalogue.specs.Refusals.{fileSize, holds, few, rises, placed, rowsFit, headFits, contentsFit, fileCheck, readCheck, rowCheck, numbered, total, lengthsFit, sizeOf, givenFits, writeCheck}
+use Rattle.catalogue_read.specs.declared.Opened.the-variants.{Holds}
+use Rattle.catalogue_read.specs.declared.numbers.Taken.the-variants.{Numbers}
+use Rattle.catalogue_write.specs.declared.Filed.the-variants.{Bytes, Refused as Unfiled}
+use Rattle.promises.specs.Worked.{A, T, T-built, T-stale, T-misclassed, T-with-3-0-1, T-with-1, places, S, X0, spans-of-X0, ends-of-T, classes-of-T, four-patterns, four-lengths, two-rows, two-programmes, entry, unset-entry, unset-bytes, Worked}
 use Rattle.promises.proofs.Demand1.{build-one, find-one, variables-one, replace-one}
 use Rattle.promises.proofs.Sheeting.{sheet-one}
+use Rattle.promises.proofs.Catalogues.{read-one, take-one, write-one}
 use lib.IntN.{pos, negsuc}
 
 -- the contract admits what its one outcome is
@@ -45,7 +52,7 @@ misclassed : Refusal
 misclassed = Row (Misclassed 6)
 
 pub worked : Worked
-unfolding build-one find-one variables-one sheet-one replace-one stale misclassed table classes classesOf placeOf alike parse over first rest ends size verdict sized written alphabetSize aritiesFit someLeaf alphabet sizes symbols differs fresh classed kept buildCheck subtrees reading given pattern position leaf faced span spansBelow sameFront meets takes steps walk below searchCheck output findCheck variablesCheck prefix replacement renewed put grown replaceCheck beginOf patternAt laid sheetSize sheetSum sheet resultsCheck sheetCheck alone result
+unfolding build-one find-one variables-one sheet-one replace-one stale misclassed table classes classesOf placeOf alike parse over first rest ends size verdict sized written alphabetSize aritiesFit someLeaf alphabet sizes symbols differs fresh classed kept buildCheck subtrees reading given pattern position leaf faced span spansBelow sameFront meets takes steps walk below searchCheck output findCheck variablesCheck prefix replacement renewed put grown replaceCheck beginOf patternAt laid sheetSize sheetSum sheet resultsCheck sheetCheck alone result read-one take-one write-one numbers bytesOf halves contents entries rows firstRow opening fileOf wide entryAt entriesOf programmesIn symbolsIn entriesIn aritiesIn firstRowIn rowIn programmeIn catalogueIn fileSize holds few rises placed rowsFit headFits contentsFit fileCheck readCheck rowCheck numbered total lengthsFit sizeOf givenFits writeCheck
 worked =
     record {
       the-table = (Fine, says (build-one A (programme T (places 9) (places 9))) (Fine, T-built) refl, refl);
@@ -77,6 +84,27 @@ worked =
       four-without-room = (
         SheetRefused (OutputShort 12),
         says (sheet-one A T-built four-patterns four-lengths (places 9) (places 11)) (SheetRefused (OutputShort 12), places 9, places 11) refl,
+        refl,
+      );
+      two-written = (
+        Bytes 53,
+        says (write-one (A .arities) (7 ∷ 900 ∷ []) (9 ∷ 1 ∷ []) two-rows (unset-bytes 60)) (Bytes 53, two-programmes ++ unset-bytes 7) refl,
+        refl,
+      );
+      two-read = (
+        Holds 2 5,
+        says (read-one two-programmes (unset-entry ∷ unset-entry ∷ unset-entry ∷ [])) (Holds 2 5, entry 7 33 9 ∷ entry 900 51 1 ∷ unset-entry ∷ []) refl,
+        refl,
+      );
+      second-row = (
+        Numbers 1,
+        says (take-one (rowCheck two-programmes (entry 900 51 1) 9) (rowIn two-programmes (entry 900 51 1)) (places 9)) (Numbers 1, 1 ∷ places 8) refl,
+        refl,
+      );
+      two-cut-wrongly = (
+        OfProgramme 7 (Early 8),
+        says (write-one (A .arities) (7 ∷ 900 ∷ []) (8 ∷ 2 ∷ []) two-rows (unset-bytes 60)) (Unfiled (OfProgramme 7 (Early 8)), unset-bytes 60) refl,
+        refl,
         refl,
       );
     }

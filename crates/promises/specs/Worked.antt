@@ -4,11 +4,22 @@
 use Prim.Native.Nat.{ℕ}
 use mathlib.Core.Path.{_≡_}
 use mathlib.Core.List.{List, [], _∷_, _++_}
-use lib.ListN.{replicate}
-use lib.IntN.{ℤ, pos, negsuc}
+use lib.ListN.{length, replicate}
+use lib.IntN.{pos, negsuc}
 use Rattle.rows.specs.Programme.{Alphabet, Programme, alphabetOf, programme}
+use Rattle.rows.specs.declared.Refusal.{Refusal}
 use Rattle.rows.specs.declared.Check.{Check}
-use Rattle.sparrowhem.specs.Said.{Said, Said.refused, Said.gives, checkSaid, foundSaid, boundSaid, sheetSaid, replacedSaid}
+use Rattle.refusal_numbers.specs.Numbers.{programme as programmeBeside}
+use Rattle.catalogue.specs.Reading.{rowIn}
+use Rattle.catalogue.specs.Refusals.{rowCheck}
+use Rattle.catalogue.specs.declared.Entry.{Entry}
+use Rattle.catalogue_read.specs.Answers.{Reads, Takes}
+use Rattle.catalogue_read.specs.declared.Opened.{Opened}
+use Rattle.catalogue_read.specs.declared.numbers.Taken.{Taken}
+use Rattle.catalogue_write.specs.Answers.{Writes}
+use Rattle.catalogue_write.specs.declared.Filed.{Filed}
+use Rattle.catalogue_write.specs.declared.Filed.the-variants.{Refused as Unfiled}
+use Rattle.sparrowhem.specs.Said.{Said, Said.refused, Said.gives, checkSaid, foundSaid, boundSaid, sheetSaid, replacedSaid, openedSaid, takenSaid, filedSaid}
 use Rattle.sparrowhem.specs.Build.{Built}
 use Rattle.sparrowhem.specs.Search.{Finds, Binds}
 use Rattle.sparrowhem.specs.Sheet.{SheetAnswers}
@@ -33,6 +44,19 @@ SheetSays a P qs ls y z said y′ z′ = (r : SheetFound) × SheetAnswers a P qs
 
 abbrev pub ReplaceSays : Alphabet → Programme → ℕ → List ℕ → ℕ → Said → Programme → Type 0
 ReplaceSays a P n v p said P′ = (r : Replaced) × Replacement a P n v p r P′ × (replacedSaid r ≡ said)
+
+abbrev pub ReadSays : List ℕ → List Entry → Said → List Entry → Type 0
+ReadSays f es said es′ = (r : Opened) × Reads f es r es′ × (openedSaid r ≡ said)
+
+abbrev pub RowSays : List ℕ → Entry → List ℕ → Said → List ℕ → Type 0
+RowSays f e b said b′ = (r : Taken) × Takes (rowCheck f e (length b)) (rowIn f e) b r b′ × (takenSaid r ≡ said)
+
+abbrev pub WriteSays : (A ns ls w b : List ℕ) → Said → List ℕ → Type 0
+WriteSays A ns ls w b said b′ = (r : Filed) × Writes A ns ls w b r b′ × (filedSaid r ≡ said)
+
+-- a write that refuses so, with the number of the programme beside it, and leaves the file as it was
+abbrev pub WriteRefuses : (A ns ls w b : List ℕ) → Said → ℕ → Type 0
+WriteRefuses A ns ls w b said n = (x : Refusal) × Writes A ns ls w b (Unfiled x) b × (filedSaid (Unfiled x) ≡ said) × (programmeBeside x ≡ n)
 
 -- alphabet A and row T, T's table, and the same with entry 4 set to 5; T's classes, and the same with class 6 set to 6
 abbrev pub A : Alphabet
@@ -98,6 +122,30 @@ four-patterns = 3 ∷ X0 ∷ X0 ∷ 3 ∷ 0 ∷ 2 ∷ S ∷ []
 abbrev pub four-lengths : List ℕ
 four-lengths = 3 ∷ 2 ∷ 0 ∷ 2 ∷ []
 
+-- the rows of two programmes laid end to end, T and 1, and the file of them with the numbers 7 and 900: head, contents, arities, rows
+abbrev pub two-rows : List ℕ
+two-rows = T ++ (1 ∷ [])
+
+abbrev pub two-programmes : List ℕ
+two-programmes =
+    (2 ∷ 0 ∷ 5 ∷ 0 ∷ [])
+    ++ ((7 ∷ 0 ∷ 0 ∷ 0 ∷ 33 ∷ 0 ∷ 0 ∷ 0 ∷ 9 ∷ 0 ∷ 0 ∷ 0 ∷ [])
+    ++ ((132 ∷ 3 ∷ 0 ∷ 0 ∷ 51 ∷ 0 ∷ 0 ∷ 0 ∷ 1 ∷ 0 ∷ 0 ∷ 0 ∷ [])
+    ++ ((0 ∷ 0 ∷ 1 ∷ 2 ∷ 3 ∷ [])
+    ++ ((4 ∷ 0 ∷ 3 ∷ 0 ∷ 0 ∷ 0 ∷ 0 ∷ 0 ∷ 2 ∷ 0 ∷ 1 ∷ 0 ∷ 3 ∷ 0 ∷ 0 ∷ 0 ∷ 0 ∷ 0 ∷ [])
+    ++ (1 ∷ 0 ∷ [])))))
+
+-- a record of a programme, its row's start and length; and one that was not written
+abbrev pub entry : ℕ → ℕ → ℕ → Entry
+entry n b l = record { programme = n; start = b; length = l }
+
+abbrev pub unset-entry : Entry
+unset-entry = entry unset unset unset
+
+-- so many bytes of a file that were not written
+abbrev pub unset-bytes : ℕ → List ℕ
+unset-bytes n = replicate n 170
+
 -- a build of the row w that refuses so, and writes nothing
 abbrev pub Refused-row : List ℕ → ℕ → ℕ → Type 0
 Refused-row w k x = BuildSays A (programme w (places 9) (places 9)) (refused k x) (programme w (places 9) (places 9))
@@ -141,3 +189,10 @@ pub record Worked : Type 0 where
       SheetSays A T-built four-patterns four-lengths (places 9) (places 13) (gives (pos 4 ∷ pos 3 ∷ [])) (1 ∷ 6 ∷ 4 ∷ places 6)
       (0 ∷ 0 ∷ 2 ∷ 14 ∷ 2 ∷ 0 ∷ 11 ∷ 0 ∷ 0 ∷ 0 ∷ 0 ∷ 1 ∷ places 1)
   pub four-without-room : SheetSays A T-built four-patterns four-lengths (places 9) (places 11) (refused 19 12) (places 9) (places 11)
+  -- 14: the file of two programmes in a buffer of 60 bytes; read again, with a record to spare; the row of the second record; and the
+  -- same with the lengths 8 and 2, by which the row of programme 7 ends early
+  pub two-written : WriteSays (A .arities) (7 ∷ 900 ∷ []) (9 ∷ 1 ∷ []) two-rows (unset-bytes 60) (gives (pos 53 ∷ [])) (two-programmes ++ unset-bytes 7)
+  pub two-read :
+      ReadSays two-programmes (unset-entry ∷ unset-entry ∷ unset-entry ∷ []) (gives (pos 2 ∷ pos 5 ∷ [])) (entry 7 33 9 ∷ entry 900 51 1 ∷ unset-entry ∷ [])
+  pub second-row : RowSays two-programmes (entry 900 51 1) (places 9) (gives (pos 1 ∷ [])) (1 ∷ places 8)
+  pub two-cut-wrongly : WriteRefuses (A .arities) (7 ∷ 900 ∷ []) (8 ∷ 2 ∷ []) two-rows (unset-bytes 60) (refused 8 8) 7

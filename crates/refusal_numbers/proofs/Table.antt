@@ -48,7 +48,7 @@ order Fine b k q = (λ h. inr (refl, h), λ s. ⊎-elim (λ h. absurd h) (λ h. 
 order (Refused x) b k q = (λ h. inl h, λ s. ⊎-elim (λ h. h) (λ h. absurd (clash (Refused x) x (h .0) refl)) s)
 
 -- a check of one test refuses exactly if what is tested holds
-test : (b : Bool) (x : Refusal) (P : Type 0) (k q : ℕ) → (b ≡ true → P) → (P → b ≡ true)
+pub test : (b : Bool) (x : Refusal) (P : Type 0) (k q : ℕ) → (b ≡ true → P) → (P → b ≡ true)
     → Refuses (refuseIf b x) k q ↔ ((k ≡ number x) × (q ≡ place x) × P)
 test true x P k q to from = (λ h. (h .0, h .1, to refl), λ h. (h .0, h .1))
 test false x P k q to from = (λ h. absurd h, λ h. (let e = from (h .2) in let z : _≡_ {A = ℕ} 0 1 = cc in absurd (omega arith)))

@@ -8,8 +8,10 @@ use Rattle.rows.specs.declared.Kept.{Kept}
 use Rattle.rows.specs.declared.Kept.the-variants.{Misread, Short, Stale, Misclassed}
 use Rattle.rows.specs.declared.Text.{Text}
 use Rattle.rows.specs.declared.Text.the-variants.{Line, Bytes}
+use Rattle.rows.specs.declared.CatalogueFault.{CatalogueFault}
+use Rattle.rows.specs.declared.CatalogueFault.the-variants.{Long as LongFile, Short as ShortFile, Programmes, NotRising, Misplaced, LeftOver}
 use Rattle.rows.specs.declared.Refusal.{Refusal}
-use Rattle.rows.specs.declared.Refusal.the-variants.{Arities, Row, OnRecord, Pattern, Replacement, Position, TooLong, OutputShort, Input, SheetSize, SheetSum}
+use Rattle.rows.specs.declared.Refusal.the-variants.{Arities, Row, OnRecord, Pattern, Replacement, Position, TooLong, OutputShort, Input, SheetSize, SheetSum, Catalogue, Programme}
 
 -- a fault of an alphabet
 abbrev pub alphabetNumber : Alphabet → ℕ
@@ -72,6 +74,23 @@ abbrev pub textPlace : Text → ℕ
 textPlace (Line k) = k
 textPlace Bytes = 65536
 
+-- a fault of a catalogue or of its file
+abbrev pub catalogueNumber : CatalogueFault → ℕ
+catalogueNumber (LongFile n) = 66
+catalogueNumber (ShortFile n) = 65
+catalogueNumber (Programmes n) = 88
+catalogueNumber (NotRising p) = 67
+catalogueNumber (Misplaced p) = 68
+catalogueNumber (LeftOver p) = 69
+
+abbrev pub cataloguePlace : CatalogueFault → ℕ
+cataloguePlace (LongFile n) = n
+cataloguePlace (ShortFile n) = n
+cataloguePlace (Programmes n) = n
+cataloguePlace (NotRising p) = p
+cataloguePlace (Misplaced p) = p
+cataloguePlace (LeftOver p) = p
+
 -- the number of a refusal
 abbrev pub number : Refusal → ℕ
 number (Arities f) = alphabetNumber f
@@ -85,6 +104,8 @@ number (OutputShort n) = 19
 number (Input f) = textNumber f
 number (SheetSize n) = 63
 number (SheetSum m) = 64
+number (Catalogue f) = catalogueNumber f
+number (Programme n f) = rowNumber f
 
 -- its place
 abbrev pub place : Refusal → ℕ
@@ -99,3 +120,21 @@ place (OutputShort n) = n
 place (Input f) = textPlace f
 place (SheetSize n) = n
 place (SheetSum m) = m
+place (Catalogue f) = cataloguePlace f
+place (Programme n f) = faultPlace f
+
+-- the number of the programme beside it: of a row's fault in a catalogue, else 0
+abbrev pub programme : Refusal → ℕ
+programme (Arities f) = 0
+programme (Row k) = 0
+programme (OnRecord k) = 0
+programme (Pattern f) = 0
+programme (Replacement f) = 0
+programme (Position p) = 0
+programme (TooLong n) = 0
+programme (OutputShort n) = 0
+programme (Input f) = 0
+programme (SheetSize n) = 0
+programme (SheetSum m) = 0
+programme (Catalogue f) = 0
+programme (Programme n f) = n

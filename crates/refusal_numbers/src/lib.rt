@@ -1,7 +1,8 @@
 // The number and the place of each refusal.
 ghost use mathlib.Core.Path.{_≡_};
-ghost use Rattle.refusal_numbers.specs.Numbers.{alphabetNumber, alphabetPlace, rowNumber, patternNumber, replacementNumber, faultPlace, keptNumber, onRecordNumber, keptPlace, textNumber, textPlace, number, place};
+ghost use Rattle.refusal_numbers.specs.Numbers.{alphabetNumber, alphabetPlace, rowNumber, patternNumber, replacementNumber, faultPlace, keptNumber, onRecordNumber, keptPlace, textNumber, textPlace, catalogueNumber, cataloguePlace, number, place, programme};
 use rows::Arities;
+use rows::CatalogueFault;
 use rows::Fault;
 use rows::Kept;
 use rows::Refusal;
@@ -122,6 +123,32 @@ fn text_place(fault: Text) -> usize
     }
 }
 
+fn catalogue_number(fault: CatalogueFault) -> usize
+    ensures { λ r. ⌜ r ≡ catalogueNumber fault ⌝ }
+{
+    match fault {
+        CatalogueFault::Long(_) => 66,
+        CatalogueFault::Short(_) => 65,
+        CatalogueFault::Programmes(_) => 88,
+        CatalogueFault::NotRising(_) => 67,
+        CatalogueFault::Misplaced(_) => 68,
+        CatalogueFault::LeftOver(_) => 69,
+    }
+}
+
+fn catalogue_place(fault: CatalogueFault) -> usize
+    ensures { λ r. ⌜ r ≡ cataloguePlace fault ⌝ }
+{
+    match fault {
+        CatalogueFault::Long(n) => n,
+        CatalogueFault::Short(n) => n,
+        CatalogueFault::Programmes(n) => n,
+        CatalogueFault::NotRising(p) => p,
+        CatalogueFault::Misplaced(p) => p,
+        CatalogueFault::LeftOver(p) => p,
+    }
+}
+
 // The number of a refusal.
 pub fn number_of(refusal: Refusal) -> usize
     ensures { λ r. ⌜ r ≡ number refusal ⌝ }
@@ -138,6 +165,8 @@ pub fn number_of(refusal: Refusal) -> usize
         Refusal::Input(f) => text_number(f),
         Refusal::SheetSize(_) => 63,
         Refusal::SheetSum(_) => 64,
+        Refusal::Catalogue(f) => catalogue_number(f),
+        Refusal::Programme(_, f) => row_number(f),
     }
 }
 
@@ -157,5 +186,17 @@ pub fn place_of(refusal: Refusal) -> usize
         Refusal::Input(f) => text_place(f),
         Refusal::SheetSize(n) => n,
         Refusal::SheetSum(m) => m,
+        Refusal::Catalogue(f) => catalogue_place(f),
+        Refusal::Programme(_, f) => fault_place(f),
     }
+}
+
+// The number of the programme beside it: of a row's fault in a catalogue, else 0.
+pub fn programme_of(refusal: Refusal) -> u32
+    ensures { λ r. ⌜ r ≡ programme refusal ⌝ }
+{
+    let Refusal::Programme(n, _) = refusal else {
+        return 0;
+    };
+    n
 }

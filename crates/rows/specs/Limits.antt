@@ -23,6 +23,13 @@ sheetMost = 64
 abbrev pub resultPlaces : ℕ
 resultPlaces = 3
 
+-- the most programmes of a catalogue, and the most bytes of its file
+abbrev pub programmesMost : ℕ
+programmesMost = 256
+
+abbrev pub fileMost : ℕ
+fileMost = 65536
+
 -- the blank S; the variable X0, and how many variables there are
 abbrev pub blank : ℕ
 blank = 65535

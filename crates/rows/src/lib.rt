@@ -13,7 +13,8 @@ ghost use Rattle.rows.specs.declared.Kept.{Kept};
 ghost use Rattle.rows.specs.declared.Refusal.{Refusal};
 
 // The sizes within which everything is accepted: the most symbols of an alphabet, the largest arity, the most symbols of a row
-// or a replacement, the most numbers of a pattern, the most patterns of a sheet.
+// or a replacement, the most numbers of a pattern, the most patterns of a sheet, the most programmes of a catalogue and the most
+// bytes of its file.
 pub const ALPHABET_MOST: usize = 1024;
 
 pub const ARITY_MOST: u16 = 15;
@@ -23,6 +24,10 @@ pub const ROW_MOST: usize = 16384;
 pub const PATTERN_MOST: usize = 256;
 
 pub const SHEET_MOST: usize = 64;
+
+pub const PROGRAMMES_MOST: usize = 256;
+
+pub const FILE_MOST: usize = 65536;
 
 // The numbers with a meaning of their own: the blank S; the variable X0, how many variables there are, and how many places their
 // begins and ends take; how many places the result of one pattern of a sheet takes; what freed places hold in a row, in its table
@@ -93,7 +98,18 @@ pub enum Text {
     Bytes,
 }
 
-// Why a call refuses, by what is wrong. The crate `refusal_numbers` gives the numbers and places.
+// What is wrong with a catalogue or with its file: the file is too long, it is too short for what its head tells, there are too
+// many programmes, their numbers do not rise, rows do not follow each other as the contents say, bytes are left over.
+pub enum CatalogueFault {
+    Long(usize),
+    Short(usize),
+    Programmes(usize),
+    NotRising(usize),
+    Misplaced(usize),
+    LeftOver(usize),
+}
+
+// Why a call refuses, by what is wrong; the row of a programme of a catalogue by the programme's number. The crate `refusal_numbers` gives the numbers and places.
 pub enum Refusal {
     Arities(Arities),
     Row(Kept),
@@ -106,6 +122,8 @@ pub enum Refusal {
     Input(Text),
     SheetSize(usize),
     SheetSum(usize),
+    Catalogue(CatalogueFault),
+    Programme(u32, Fault),
 }
 
 pub enum Check {
@@ -326,7 +344,7 @@ pub fn check_symbols(arities: &[u16], row: &[u16]) -> Keeping
 }
 
 // Is a length from 1 to `most`?
-fn check_size(n: usize, most: usize) -> Verdict
+pub fn check_size(n: usize, most: usize) -> Verdict
     ensures { λ r. ⌜ r ≡ sized n most ⌝ }
 {
     if n < 1 {

@@ -6,6 +6,12 @@ use Rattle.refusal_numbers.specs.Numbers.{number, place}
 use Rattle.rows.specs.declared.Refusal.{Refusal}
 use Rattle.rows.specs.declared.Check.{Check}
 use Rattle.rows.specs.declared.Check.the-variants.{Fine, Refused}
+use Rattle.catalogue_read.specs.declared.Opened.{Opened}
+use Rattle.catalogue_read.specs.declared.Opened.the-variants.{Holds, Refused as Unread}
+use Rattle.catalogue_read.specs.declared.numbers.Taken.{Taken}
+use Rattle.catalogue_read.specs.declared.numbers.Taken.the-variants.{Numbers, Refused as Untaken}
+use Rattle.catalogue_write.specs.declared.Filed.{Filed}
+use Rattle.catalogue_write.specs.declared.Filed.the-variants.{Bytes, Refused as Unfiled}
 use Rattle.sparrowhem.specs.declared.search.Found.{Found}
 use Rattle.sparrowhem.specs.declared.search.Found.the-variants.{Matches, Refused as FindRefused}
 use Rattle.sparrowhem.specs.declared.search.Bound.{Bound}
@@ -72,3 +78,18 @@ abbrev pub fitsSaid : Fits → Said
 fitsSaid Yes = gives (pos 1 ∷ [])
 fitsSaid No = gives (pos 0 ∷ [])
 fitsSaid (PlainRefused r) = refusal r
+
+-- read catalogue: the number of its programmes, and that of its symbols
+abbrev pub openedSaid : Opened → Said
+openedSaid (Holds n s) = gives (pos n ∷ pos s ∷ [])
+openedSaid (Unread r) = refusal r
+
+-- alphabet of a catalogue, and row of an entry: how many numbers were written
+abbrev pub takenSaid : Taken → Said
+takenSaid (Numbers n) = gives (pos n ∷ [])
+takenSaid (Untaken r) = refusal r
+
+-- write catalogue: the file's size
+abbrev pub filedSaid : Filed → Said
+filedSaid (Bytes n) = gives (pos n ∷ [])
+filedSaid (Unfiled r) = refusal r

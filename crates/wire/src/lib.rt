@@ -5,6 +5,15 @@ ghost use lib.ListN.{length, getD, take};
 ghost use Rattle.rows.specs.Buffers.{written};
 ghost use Rattle.wire.specs.Wire.{numbers, bytesOf, withNumber};
 
+mod rooms;
+mod scan;
+
+pub use rooms::SMALL;
+pub use rooms::alphabet_room;
+pub use rooms::small_room;
+pub use scan::check_reading;
+pub use scan::check_row;
+
 // How many numbers there are.
 pub fn count(bytes: &[u8]) -> usize
     ensures { λ r. ⌜ r ≡ length (numbers (now (bytes .entry))) ⌝ }
@@ -76,6 +85,18 @@ pub fn copy(from: &[u8], to: &mut [u8])
     let mut i = 0;
     while i < from.len() {
         to[i] = from[i];
+        i += 1;
+    }
+}
+
+// Bytes as numbers of their own, at the front of `room`; later places stay.
+pub fn widen(bytes: &[u8], room: &mut [u16])
+    requires { ⌜ length (now bytes) ≤ length (now room) ⌝ }
+    ensures { λ _. ⌜ now (room .exit) ≡ written (now (room .entry)) 0 (now (bytes .entry)) ⌝ }
+{
+    let mut i = 0;
+    while i < bytes.len() {
+        room[i] = bytes[i] as u16;
         i += 1;
     }
 }

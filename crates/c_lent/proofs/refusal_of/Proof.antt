@@ -1,7 +1,7 @@
 -- `c_lent::refusal_of` meets its contract. A refusal's number is small.
 -- Assumes nothing.
 use native.Mathlib.Omega.{arith}
-use Rattle.c_lent.proofs.Crossing.{number-few}
+use Rattle.refusal_numbers.proofs.Few.{number-few}
 use borrow.Author.Needs.{needs}
 use Rattle.c_lent.proofs.refusal_of.Statement.{statement}
 use Rattle.c_lent.proofs.refusal_of.Tie as tie

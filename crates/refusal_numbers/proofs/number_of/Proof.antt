@@ -55,6 +55,18 @@ enum-told-4 c = search needs
 enum-told-5 : tie.Need-enum-told-5
 enum-told-5 c = search needs
 
+enum-known-refusal-7 : tie.Need-enum-known-refusal-7
+enum-known-refusal-7 c = search needs
+
+catalogue-number-requires : tie.Need-catalogue-number-requires
+catalogue-number-requires c κs = search needs
+
+enum-known-refusal-8 : tie.Need-enum-known-refusal-8
+enum-known-refusal-8 c = search needs
+
+row-number-requires : tie.Need-row-number-requires
+row-number-requires c κs = search needs
+
 returns : tie.Need-returns
 returns c = search needs
 
@@ -88,6 +100,12 @@ returns-10 c = search needs
 returns-11 : tie.Need-returns-11
 returns-11 c = search needs
 
+returns-12 : tie.Need-returns-12
+returns-12 c = search needs
+
+returns-13 : tie.Need-returns-13
+returns-13 c = simp (c .before .before .refusal8 .given .1) (c .row-number .ensures)
+
 pub number-of-spec : {M : Type 1} → statement M
 number-of-spec =
     tie.close
@@ -109,6 +127,10 @@ number-of-spec =
     text-number-requires
     enum-told-4
     enum-told-5
+    enum-known-refusal-7
+    catalogue-number-requires
+    enum-known-refusal-8
+    row-number-requires
     returns
     returns-2
     returns-3
@@ -119,4 +141,6 @@ number-of-spec =
     returns-8
     returns-9
     returns-10
-    returns-11)
+    returns-11
+    returns-12
+    returns-13)

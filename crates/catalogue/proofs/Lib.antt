@@ -1,0 +1,9 @@
+pub mod Halves
+pub mod Written
+pub mod Checks
+pub mod Rising
+pub mod Read
+pub mod Accepting
+pub mod Scan
+pub mod Promises
+pub mod Table

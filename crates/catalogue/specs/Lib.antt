@@ -1,0 +1,5 @@
+pub mod Catalogue
+pub mod Reading
+pub mod Refusals
+pub mod Promises
+pub mod Table

@@ -1,0 +1,3 @@
+pub mod Behind
+pub mod Storing
+pub mod Taking

@@ -1,0 +1,4 @@
+pub mod Alphabets
+pub mod Counting
+pub mod Laying
+pub mod Granting
