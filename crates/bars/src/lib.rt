@@ -1,4 +1,6 @@
 // Prefix bar notation: a node's symbol, its children, then a bar that closes it. Read into a row, and written from one.
+#![tactic(auto)]
+
 ghost use Rattle.bars.specs.Calls.{ReadsBars, WritesBars};
 
 use rows::{Check, Refusal};
@@ -11,14 +13,14 @@ pub use reader::{check_read_in, copy_symbols};
 pub use writer::{check_write, write_form};
 
 // What reading bars answers: how many symbols the row has, or why it is refused.
-#[derive(Drop)]
+#[derive(Clone, Copy)]
 pub enum BarsRead {
     Symbols(usize),
     Refused(Refusal),
 }
 
 // What writing bars answers: how many numbers the bar form has, or why it is refused.
-#[derive(Drop)]
+#[derive(Clone, Copy)]
 pub enum BarsWritten {
     Numbers(usize),
     Refused(Refusal),

@@ -1,4 +1,6 @@
 // Moving, copying, shifting and filling within lent buffers.
+#![tactic(auto)]
+
 ghost use Rattle.std.specs.Prelude.{◌≡◌, map, ◌+◌, ◌-◌, ◌≤◌, length, take, drop, replicate};
 ghost use Rattle.rows.specs.Buffers.{written};
 ghost use Rattle.buffers.specs.Shift.{shifted, Shiftable};

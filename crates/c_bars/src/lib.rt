@@ -1,4 +1,6 @@
 // Bar notation for C: the lent numbers are copied, read or written, and the bytes of what comes of it put into the lent buffer.
+#![tactic(auto)]
+
 ghost use Rattle.std.specs.Prelude.{◌≡◌};
 ghost use Rattle.rows.specs.declared.Refusal.{Refusal};
 ghost use Rattle.rows.specs.declared.Check.TheVariants.{Refused};

@@ -1,4 +1,6 @@
 // Catalogue files for C: how answers cross, and the writer, on the lent bytes of the rows.
+#![tactic(auto)]
+
 ghost use Rattle.std.specs.Prelude.{◌≡◌};
 ghost use Rattle.c_catalogue.specs.Answer.{refused, read_answer};
 
@@ -12,7 +14,7 @@ pub use writer::write;
 // An answer on a catalogue file, as it crosses. `refusal` is 0 or the number of the refusal (docs/SCOPE.md), `programme` the number of the
 // programme whose row is faulty, or 0.
 #[repr(C)]
-#[derive(Drop)]
+#[derive(Clone, Copy)]
 pub struct CatalogueAnswer {
     pub refusal: u32,
     pub programme: u32,

@@ -1,4 +1,6 @@
 // The classes of a row, filled in on the lent bytes themselves, as `classes` does on numbers: only how a number is read and put differs.
+#![tactic(auto)]
+
 ghost use Rattle.std.specs.Prelude.{◌≡◌, List, ℕ, ◌+◌, ◌-◌, ◌≤◌, ◌<◌, length, get_or};
 ghost use Rattle.rows.specs.Tree.{Forest, size};
 ghost use Rattle.rows.specs.Classes.{classes as classesOfRow, SameSign};

@@ -1,4 +1,6 @@
 // Numbers in lent bytes: how answers cross, the alphabet, which is read once, and build, on the lent bytes themselves.
+#![tactic(auto)]
+
 ghost use Rattle.std.specs.Prelude.{◌≡◌};
 ghost use Rattle.c_lent.specs.Answer.{refused};
 
@@ -13,7 +15,7 @@ pub use table::build;
 
 // An answer, as it crosses. `refusal` is 0 or the number of the refusal (docs/SCOPE.md).
 #[repr(C)]
-#[derive(Drop)]
+#[derive(Clone, Copy)]
 pub struct Answer {
     pub refusal: u32,
     pub change: i32,

@@ -1,5 +1,7 @@
 // A sheet of patterns on lent bytes. Row, table and classes are copied, in rooms that are made for the row's size; the patterns, which can be
 // many, one after the other.
+#![tactic(auto)]
+
 ghost use Rattle.std.specs.Prelude.{◌≡◌, ◌+◌, ◌*◌, ◌≤◌, ◌<◌, min, length, pos};
 ghost use Rattle.rows.specs.Limits.{alphabet_most, row_most, pattern_most, sheet_most, result_places};
 ghost use Rattle.rows.specs.Programme.{alphabet_of, programme};

@@ -1,5 +1,7 @@
 // Runs the cases of the file `stdin`: the worked programmes of docs/SCOPE.md, the sizes at their limits and the refusals. Each is
 // one of the public calls, and what it answers and leaves in its buffers is printed.
+#![tactic(auto)]
+
 mod calling;
 mod filing;
 mod posting;

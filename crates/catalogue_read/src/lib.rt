@@ -1,4 +1,6 @@
 // The reader of a catalogue file: the checks on its bytes, the records of its contents, and its rows and its alphabet as numbers.
+#![tactic(auto)]
+
 ghost use Rattle.std.specs.Prelude.{◌≡◌};
 ghost use Rattle.catalogue.specs.Refusals.{read_check};
 ghost use Rattle.catalogue_read.specs.Answers.{opened, Reads};
@@ -16,7 +18,7 @@ mod records;
 pub use numbers::{Taken, catalogue_alphabet, catalogue_row};
 
 // What reading a file answers: how many programmes and symbols it holds, or why it is refused.
-#[derive(Drop)]
+#[derive(Clone, Copy)]
 pub enum Opened {
     Holds { programmes: usize, symbols: usize },
     Refused(Refusal),

@@ -8,7 +8,7 @@ use catalogue::Entry;
 use rows::{CatalogueFault, Check, Refusal};
 
 // What is answered: how many numbers were written, or why it is refused.
-#[derive(Drop)]
+#[derive(Clone, Copy)]
 pub enum Taken {
     Numbers(usize),
     Refused(Refusal),

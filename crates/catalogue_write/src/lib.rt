@@ -1,4 +1,6 @@
 // The writer of a catalogue file: the checks of what is given, and the file's bytes.
+#![tactic(auto)]
+
 ghost use Rattle.catalogue_write.specs.Answers.{Writes};
 
 use rows::{Check, Refusal};
@@ -10,7 +12,7 @@ pub use given::{check_few, check_given, check_room, size_of, widen};
 pub use layout::lay_front;
 
 // What writing a catalogue answers: the file's size, or why it is refused.
-#[derive(Drop)]
+#[derive(Clone, Copy)]
 pub enum Filed {
     Bytes(usize),
     Refused(Refusal),

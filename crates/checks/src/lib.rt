@@ -1,4 +1,6 @@
 // What each public call refuses: the first refusal in the order of docs/SCOPE.md, or none.
+#![tactic(auto)]
+
 mod edit;
 mod given;
 mod matcher;

@@ -1,4 +1,6 @@
 // The classes of a row, checked: a right list is told by what it shows, and only for another one are the classes filled in anew.
+#![tactic(auto)]
+
 ghost use Rattle.std.specs.Prelude.{◌≡◌, List, true, ℕ, ◌+◌, ◌-◌, ◌≤◌, ◌<◌, length, get_or, set, take};
 ghost use Rattle.rows.specs.Tree.{Forest, size};
 ghost use Rattle.rows.specs.Classes.{FirstEqual, SameSign};
@@ -16,21 +18,21 @@ use rows::{Keeping, Kept};
 use tables::Asked;
 
 // Where a list goes on, after a subtree that was there before; or it is wrong.
-#[derive(Drop)]
+#[derive(Clone, Copy)]
 pub enum Onward {
     To(usize),
     Wrong,
 }
 
 // The sign of a position as a number; or another position stands for the same.
-#[derive(Drop)]
+#[derive(Clone, Copy)]
 pub enum Signed {
     Sign(u64),
     Twice,
 }
 
 // A bare position, and behind it the next that names itself, or the row's end; or something is wrong before that.
-#[derive(Drop)]
+#[derive(Clone, Copy)]
 pub enum Next {
     After(usize, usize),
     Amiss,

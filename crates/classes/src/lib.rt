@@ -1,4 +1,6 @@
 // The classes of a row, filled in: that of a position is the first position whose subtree is equal to the one there.
+#![tactic(auto)]
+
 ghost use Rattle.std.specs.Prelude.{◌≡◌, List, ℕ, ◌+◌, ◌-◌, ◌≤◌, ◌<◌, ltb, length, get_or, drop};
 ghost use Rattle.rows.specs.Tree.{Forest, size};
 ghost use Rattle.rows.specs.Row.{pick};
@@ -75,14 +77,14 @@ fn same_last(row: &[u16], table: &[u16], list: &[u16], p: usize, q: usize) -> bo
 }
 
 // What a walk along a chain finds: a position, or nothing.
-#[derive(Drop)]
+#[derive(Clone, Copy)]
 pub enum Found {
     At(usize),
     Nothing,
 }
 
 // What the children of a position show: where its subtree stands again for the last time; or the sign of the position.
-#[derive(Drop)]
+#[derive(Clone, Copy)]
 pub enum Sought {
     Told(usize),
     Sign(u64),

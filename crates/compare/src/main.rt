@@ -3,6 +3,8 @@
 // refuse alike, and so a row that the sheet refuses. The class of every position of every row is compared too, with the first
 // position of an equal subtree. The file `stdin` has lists with a stroke between each two: the alphabet, of five symbols, the sheet's
 // patterns end to end, their lengths, and each pattern by itself. Some patterns are faulty.
+#![tactic(auto)]
+
 ghost use Rattle.std.specs.Prelude.{◌≡◌, ◌≤◌, length};
 
 use libc::STDIN_FILENO;
@@ -14,7 +16,7 @@ const PATTERNS: usize = 14;
 
 // How many positions were tried and how many of them match, how many calls were refused alike, how many classes were compared,
 // and how often the two differ.
-#[derive(Drop)]
+#[derive(Clone, Copy)]
 struct Tally {
     positions: usize,
     matches: usize,

@@ -1,4 +1,6 @@
 // Decimal numbers in text, both ways: lines of numbers from 0 to 65535 are read, any number is printed.
+#![tactic(auto)]
+
 ghost use Rattle.std.specs.Prelude.{◌≡◌, [], ◌∷◌, ◌++◌, ℕ, ◌+◌, ◌≤◌, ◌<◌, length, get_or, drop};
 ghost use Rattle.rows.specs.Row.{pick};
 ghost use Rattle.decimal.specs.Lines.{numeral, number_most};
@@ -9,21 +11,21 @@ ghost use Rattle.decimal.specs.Inside.{ends_number, NumberAt, LineAt, LineRoom, 
 const NUMBER_MOST: u32 = 65535;
 
 // Where reading stands: at a byte of the text, in a line that is counted from 1.
-#[derive(Drop)]
+#[derive(Clone, Copy)]
 pub struct Cursor {
     pub at: usize,
     pub line: usize,
 }
 
 // A number and the cursor after it, or the line that is faulty.
-#[derive(Drop)]
+#[derive(Clone, Copy)]
 pub enum Number {
     Value(u16, Cursor),
     Faulty(usize),
 }
 
 // The place behind a line's last number and the cursor of the next line, or the line that is faulty.
-#[derive(Drop)]
+#[derive(Clone, Copy)]
 pub enum Line {
     Numbers(usize, Cursor),
     Faulty(usize),

@@ -1,4 +1,6 @@
 // A row, its table and its classes with one subtree replaced, all in place; refusals 17 and 18; the change in length.
+#![tactic(auto)]
+
 ghost use Rattle.std.specs.Prelude.{◌≡◌, List, map, ℕ, ◌+◌, ◌-◌, ◌≤◌, ◌<◌, length, take, drop, get_or, pos, ◌-ℤ◌};
 ghost use Rattle.rows.specs.Limits.{row_most, freed_symbol, freed_entry, freed_class};
 ghost use Rattle.rows.specs.Tree.{ends};

@@ -1,5 +1,7 @@
 // The calls for C, as include/sparrowhem.h declares them. Nothing is asked of the caller but what that header
 // says: a pointer leads to as many bytes as its count says, and no buffer that is written overlaps another.
+#![tactic(auto)]
+
 ghost use Rattle.rows.specs.Programme.{alphabet_of};
 ghost use Rattle.wire.specs.Wire.{numbers};
 ghost use Rattle.c_lent.specs.Lent.{lent, numbers_of};

@@ -1,5 +1,7 @@
 // Patterns: what a number of a pattern stands for, the check of a pattern, and one step of the walk along it over a row with
 // its table and its classes; and where a step misses: at which place of the pattern, and at which position of the row.
+#![tactic(auto)]
+
 ghost use Rattle.std.specs.Prelude.{◌≡◌, false, ℕ, ◌+◌, ◌-◌, ◌≤◌, ◌<◌, length, get_or};
 ghost use Rattle.rows.specs.Refusals.{pattern};
 ghost use Rattle.patterns.specs.Pattern.{leaf};
@@ -14,7 +16,7 @@ use rows::{Check, Leaves, Refusal, Verdict};
 pub const MARKS: usize = rows::VARIABLES as usize;
 
 // What a number of a pattern stands for: itself, any subtree, or the subtree of a variable.
-#[derive(Drop)]
+#[derive(Clone, Copy)]
 pub enum Leaf {
     Plain,
     Blank,
@@ -108,7 +110,7 @@ pub fn count_same(row: &[u16], a: usize, b: usize, n: usize) -> usize
 }
 
 // What a number of the pattern finds in the row: the position after what it stands for; or that it does not fit.
-#[derive(Drop)]
+#[derive(Clone, Copy)]
 pub enum Stepped {
     To(usize),
     Miss,
@@ -116,7 +118,7 @@ pub enum Stepped {
 
 // What a walk along the whole pattern finds: it comes through; or the place of the pattern and the position of the row where
 // it fails.
-#[derive(Drop)]
+#[derive(Clone, Copy)]
 pub enum Walked {
     Through,
     Fails(usize, usize),

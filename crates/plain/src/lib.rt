@@ -1,6 +1,8 @@
 // The plain matcher: yes, or where not, without a table. A node asks about its row of children, and the row of children asks
 // about each node, on a shorter and shorter part of the row. The end of a subtree is found by counting, and only where something
 // behind it is compared.
+#![tactic(auto)]
+
 ghost use Rattle.std.specs.Prelude.{◌≡◌, ◌+◌, ◌≤◌, ◌<◌, length, get_or};
 ghost use Rattle.rows.specs.Limits.{row_most, pattern_most, variables};
 ghost use Rattle.rows.specs.Programme.{alphabet_of};
@@ -50,7 +52,7 @@ fn tree_length(arities: &[u16], rest: &[u16]) -> usize
 
 // What trees of the pattern find in the row: how many numbers of the pattern and how many symbols of the row they take; that
 // the whole pattern fits, since only S stand behind; or the place of the pattern and the place of the part where they do not fit.
-#[derive(Drop)]
+#[derive(Clone, Copy)]
 pub enum Tried {
     Past(usize, usize),
     Through,

@@ -1,4 +1,6 @@
 // The number and the place of each refusal.
+#![tactic(auto)]
+
 ghost use Rattle.std.specs.Prelude.{◌≡◌};
 ghost use Rattle.refusal_numbers.specs.Numbers.{alphabet_number, alphabet_place, row_number, pattern_number, replacement_number, fault_place, kept_number, on_record_number, kept_place, text_number, text_place, catalogue_number, catalogue_place, bars_number, bars_place, number, place, programme};
 

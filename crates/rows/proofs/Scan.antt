@@ -49,7 +49,8 @@ verdict_at : (A : List ℕ) (ok : ℕ → Bool) (l : List ℕ) (k i : ℕ) → i
     ≡ pick (ok (get_or l i 0)) (verdict A ok (k - 1 + get_or A (get_or l i 0) 0) (i + 1) (drop (i + 1) l)) (Faulty (Stray i))
 unfolding verdict
 verdict_at A ok l k i h more =
-    ap (λ (n : ℕ). verdict A ok n i (drop i l)) (omega arith) ∙ ap (verdict A ok (suc (k - 1)) i) (drop_more l i h)
+    let one : k ≡ suc (k - 1) = omega arith in
+    ap (λ (n : ℕ). verdict A ok n i (drop i l)) one ∙ ap (verdict A ok (suc (k - 1)) i) (drop_more l i h)
 
 verdict_extra : (A : List ℕ) (ok : ℕ → Bool) (l : List ℕ) (i : ℕ) → i < length l → verdict A ok 0 i (drop i l) ≡ Faulty (Extra i)
 unfolding verdict

@@ -1,4 +1,6 @@
 // The kernel: what is wrong with an alphabet, a row, a pattern or a replacement, and the checks that say so.
+#![tactic(auto)]
+
 ghost use Rattle.std.specs.Prelude.{◌≡◌, Bool, List, [], ℕ, ◌+◌, ◌-◌, ◌≤◌, ◌<◌, min, length, get_or};
 ghost use Rattle.rows.specs.Row.{verdict, is_variable, allowed, sized, reading};
 ghost use Rattle.rows.specs.Reading.{ReadTo, Reads, BelowTo};
@@ -52,7 +54,7 @@ pub const FREED_CLASS: u16 = 0;
 
 // What is wrong with a list that should be a tree's prefix notation: it is empty, it is too long, a number may not stand
 // in it, it ends before its tree does, it goes on after its tree.
-#[derive(Drop)]
+#[derive(Clone, Copy)]
 pub enum Fault {
     Empty,
     Long(usize),
@@ -61,21 +63,21 @@ pub enum Fault {
     Extra(usize),
 }
 
-#[derive(Drop)]
+#[derive(Clone, Copy)]
 pub enum Verdict {
     Whole,
     Faulty(Fault),
 }
 
 // Which leaves may stand beside the symbols of the alphabet: none, or S and the variables.
-#[derive(Drop)]
+#[derive(Clone, Copy)]
 pub enum Leaves {
     Symbols,
     Blanks,
 }
 
 // What is wrong with an alphabet: it has no symbols or too many, an arity is too large, no symbol is a leaf.
-#[derive(Drop)]
+#[derive(Clone, Copy)]
 pub enum Arities {
     Count(usize),
     Over(usize),
@@ -84,7 +86,7 @@ pub enum Arities {
 
 // What is wrong with a row and what is kept beside it: its symbols, a list that is too short, an entry of the table or a class that
 // is not the row's.
-#[derive(Drop)]
+#[derive(Clone, Copy)]
 pub enum Kept {
     Misread(Fault),
     Short(usize),
@@ -92,14 +94,14 @@ pub enum Kept {
     Misclassed(usize),
 }
 
-#[derive(Drop)]
+#[derive(Clone, Copy)]
 pub enum Keeping {
     Sound,
     Unsound(Kept),
 }
 
 // What is wrong with the input of a program: a line, or that it has too many bytes.
-#[derive(Drop)]
+#[derive(Clone, Copy)]
 pub enum Text {
     Line(usize),
     Bytes,
@@ -107,7 +109,7 @@ pub enum Text {
 
 // What is wrong with a catalogue or with its file: the file is too long, it is too short for what its head tells, there are too
 // many programmes, their numbers do not rise, rows do not follow each other as the contents say, bytes are left over.
-#[derive(Drop)]
+#[derive(Clone, Copy)]
 pub enum CatalogueFault {
     Long(usize),
     Short(usize),
@@ -119,7 +121,7 @@ pub enum CatalogueFault {
 
 // What is wrong with a bar form: no node is open where a number stands, a node has fewer children than its symbol wants or one more,
 // it ends before the root is closed.
-#[derive(Drop)]
+#[derive(Clone, Copy)]
 pub enum BarsFault {
     NothingOpen(usize),
     Children(usize),
@@ -128,7 +130,7 @@ pub enum BarsFault {
 
 // Why a call refuses, by what is wrong; the row of a programme of a catalogue by the programme's number. The crate `refusal_numbers`
 // gives the numbers and places.
-#[derive(Drop)]
+#[derive(Clone, Copy)]
 pub enum Refusal {
     Arities(Arities),
     Row(Kept),
@@ -146,7 +148,7 @@ pub enum Refusal {
     Programme(u32, Fault),
 }
 
-#[derive(Drop)]
+#[derive(Clone, Copy)]
 pub enum Check {
     Fine,
     Refused(Refusal),
@@ -267,7 +269,7 @@ fn allows(leaves: Leaves, arities: &[u16], s: u16) -> bool
 }
 
 // What reading a number finds: how many symbols are then due in all, or what is wrong.
-#[derive(Drop)]
+#[derive(Clone, Copy)]
 pub enum Read {
     Due(usize),
     Fault(Fault),
@@ -301,7 +303,7 @@ pub fn read_end(n: usize, due: usize) -> Verdict
 }
 
 // How far a list is read: up to position `at`, where `due` symbols are due in all.
-#[derive(Drop)]
+#[derive(Clone, Copy)]
 pub struct Reached {
     pub at: usize,
     pub due: usize,

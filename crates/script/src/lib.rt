@@ -1,4 +1,6 @@
 // Cases as text: a line of lists is read, and answers are printed.
+#![tactic(auto)]
+
 mod printing;
 mod reading;
 

@@ -1,5 +1,7 @@
 // The searches: the matches of a pattern in a row with its table and its classes, and the variables at one match. Each walks along the
 // pattern, a step at a time, from a position of the row.
+#![tactic(auto)]
+
 ghost use Rattle.std.specs.Prelude.{◌≡◌, true, false, ◌+◌, ◌-◌, ◌≤◌, ◌<◌, length, take};
 ghost use Rattle.rows.specs.Limits.{variables, row_most};
 ghost use Rattle.rows.specs.Programme.{Alphabet, Programme, programme};
@@ -13,7 +15,7 @@ ghost use Rattle.searches.specs.declared.Listing.TheVariants.{All};
 use patterns::{Leaf, Stepped, Walked};
 
 // What the search for the next match finds.
-#[derive(Drop)]
+#[derive(Clone, Copy)]
 pub enum Next {
     At(usize),
     Nowhere,
@@ -21,7 +23,7 @@ pub enum Next {
 
 // What is known of a pattern before its search: how many of its numbers are compared, since S at its end always fits; and how
 // many symbols each of its matches has, or 0 where they can differ in that.
-#[derive(Drop)]
+#[derive(Clone, Copy)]
 struct Outline {
     compared: usize,
     size: usize,
@@ -323,7 +325,7 @@ pub fn write_matches(
 }
 
 // What listing the matches does: all are written, so many; or nothing is, since so many places are needed.
-#[derive(Drop)]
+#[derive(Clone, Copy)]
 pub enum Listing {
     All(usize),
     Needs(usize),

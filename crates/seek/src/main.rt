@@ -1,5 +1,7 @@
 // `seek`: an alphabet, a row and a pattern on standard input; the matches, or a refusal, on standard output.
 // What it reads and writes is the work of `seek_text`; here the bytes come in and go out.
+#![tactic(auto)]
+
 ghost use Rattle.std.specs.Prelude.{◌≡◌, ◌+◌, ◌≤◌, length};
 ghost use Rattle.seek_print.specs.Inside.{line_most};
 ghost use Rattle.seek_text.specs.Seek.{input_most};

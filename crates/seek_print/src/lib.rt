@@ -1,4 +1,6 @@
 // The answer of `seek` as text: a refusal, the number of the matches, and the line of a match.
+#![tactic(auto)]
+
 ghost use Rattle.std.specs.Prelude.{◌+◌, ◌≤◌, length};
 ghost use Rattle.rows.specs.Limits.{variables};
 ghost use Rattle.decimal.specs.Inside.{Printed};

@@ -12,7 +12,7 @@ pub const NUMBERS_MOST: usize = 32768;
 
 // Where the arities, the row and the pattern end in a buffer that holds the three, one behind the other; or why the input
 // is refused.
-#[derive(Drop)]
+#[derive(Clone, Copy)]
 pub enum Input {
     Lists(usize, usize, usize),
     Refused(Refusal),

@@ -1,4 +1,6 @@
 // The text of `seek`: what its input says, what is found, and the lines of the answer, page by page.
+#![tactic(auto)]
+
 mod input;
 mod pages;
 mod search;

@@ -96,7 +96,7 @@ fn put_line(
 }
 
 // The number of the first line that is not printed yet, and how many bytes the page has.
-#[derive(Drop)]
+#[derive(Clone, Copy)]
 pub struct Page {
     pub next: usize,
     pub bytes: usize,

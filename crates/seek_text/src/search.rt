@@ -51,7 +51,7 @@ fn find_in(
 
 // What `seek` answers: where arities, row and pattern end in the buffer that holds them, and the number of the matches; or
 // why it refuses.
-#[derive(Drop)]
+#[derive(Clone, Copy)]
 pub enum Response {
     Matches(usize, usize, usize, usize),
     Refused(Refusal),

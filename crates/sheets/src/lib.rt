@@ -1,5 +1,7 @@
 // A sheet of patterns over a row with its table and its classes: each is answered as find would alone. Its positions stand behind those
 // of the patterns before it, and its result behind theirs.
+#![tactic(auto)]
+
 ghost use Rattle.std.specs.Prelude.{◌≡◌, [], ◌∷◌, ◌+◌, ◌*◌, ◌≤◌, ◌<◌, length};
 ghost use Rattle.rows.specs.Limits.{result_places};
 ghost use Rattle.rows.specs.Programme.{alphabet_of, programme};

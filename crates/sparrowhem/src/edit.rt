@@ -5,7 +5,7 @@ ghost use Rattle.sparrowhem.specs.Edit.{Replacement};
 use rows::{Check, Refusal};
 
 // The new row length and the change in length; or why the call refuses.
-#[derive(Drop)]
+#[derive(Clone, Copy)]
 pub enum Replaced {
     Done(usize, i32),
     Refused(Refusal),

@@ -1,4 +1,6 @@
 // Sparrowhem's public calls. None of them asks anything of its caller: faulty input is refused with a number and a place.
+#![tactic(auto)]
+
 mod edit;
 mod matcher;
 mod parts;

@@ -6,7 +6,7 @@ use patterns::Walked;
 use rows::{Check, Refusal};
 
 // What the plain matcher answers: whether the pattern matches at the position, or why it refuses.
-#[derive(Drop)]
+#[derive(Clone, Copy)]
 pub enum Fits {
     Yes,
     No,

@@ -7,7 +7,7 @@ use rows::{Check, Refusal};
 use searches::Next;
 
 // Where a subtree stands in its row: begin and end, the end not included; or why the call refuses.
-#[derive(Drop)]
+#[derive(Clone, Copy)]
 pub enum Placed {
     Span(usize, usize),
     Refused(Refusal),
@@ -48,7 +48,7 @@ pub fn subtree<'a>(
 
 // Which row has the first match, and begin and end of the subtree there, the end not included; or that neither has one;
 // or why the call refuses.
-#[derive(Drop)]
+#[derive(Clone, Copy)]
 pub enum Newest {
     Corrected(usize, usize),
     OnRecord(usize, usize),

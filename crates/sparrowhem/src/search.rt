@@ -8,14 +8,14 @@ use rows::{Check, Refusal};
 use searches::Listing;
 
 // What find answers: the number of the matches, or why it refuses.
-#[derive(Drop)]
+#[derive(Clone, Copy)]
 pub enum Found {
     Matches(usize),
     Refused(Refusal),
 }
 
 // What the variables call answers: whether the pattern matches, or why it refuses.
-#[derive(Drop)]
+#[derive(Clone, Copy)]
 pub enum Bound {
     Matched,
     Unmatched,
@@ -23,7 +23,7 @@ pub enum Bound {
 }
 
 // What a sheet answers: the number of its patterns and that of all their matches, or why it refuses.
-#[derive(Drop)]
+#[derive(Clone, Copy)]
 pub enum SheetFound {
     Matches(usize, usize),
     Refused(Refusal),

@@ -1,4 +1,6 @@
 // The table of a row, filled and checked.
+#![tactic(auto)]
+
 ghost use Rattle.std.specs.Prelude.{◌≡◌, true, List, ℕ, ◌+◌, ◌≤◌, ◌<◌, eqb, length};
 ghost use Rattle.rows.specs.Tree.{Forest, size, ends};
 ghost use Rattle.rows.specs.Parse.{first, parse};
@@ -110,7 +112,7 @@ pub fn fill_ends(arities: &[u16], row: &[u16], table: &mut [u16])
 
 // What a symbol shows, read from right to left: the row is no tree's; or how many trees stand side by side from there on, and
 // where the first of them, the symbol's own, ends.
-#[derive(Drop)]
+#[derive(Clone, Copy)]
 pub enum Stood {
     NoTree,
     To(usize, u16),
@@ -137,7 +139,7 @@ fn stand_at(arities: &[u16], row: &[u16], standing: &mut [u16], p: usize, trees:
 
 // What a symbol and its entry show on a pass that goes on only while row and table agree: they do not; or they do from there
 // on, and how many trees stand there side by side.
-#[derive(Drop)]
+#[derive(Clone, Copy)]
 pub enum Agreed {
     No,
     To(usize),
@@ -207,7 +209,7 @@ fn is_right(arities: &[u16], row: &[u16], table: &[u16], standing: &mut [u16]) -
 
 // What one pass over a row and a table sees: the row is no tree's; or it is one's, and where the first entry stands that is
 // not the row's, the row's length if there is none.
-#[derive(Drop)]
+#[derive(Clone, Copy)]
 pub enum Seen {
     NoTree,
     Tree(usize),
@@ -222,7 +224,7 @@ fn first_stale(p: usize, x: u16, e: u16, later: usize) -> usize
 
 // What a symbol and its entry show, read from right to left: the row is no tree's; or how many trees stand side by side from
 // there on, and where the first entry stands that is not the row's.
-#[derive(Drop)]
+#[derive(Clone, Copy)]
 pub enum Compared {
     NoTree,
     To(usize, usize),
@@ -296,7 +298,7 @@ fn compare_near(arities: &[u16], row: &[u16], table: &[u16], standing: &mut [u16
 
 // What is asked of a row and a table: only whether all is right, where `NoTree` says no more than that it is not; or what is
 // wrong first.
-#[derive(Drop)]
+#[derive(Clone, Copy)]
 pub enum Asked {
     Right,
     First,

@@ -1,4 +1,6 @@
 // Numbers as lent bytes: two bytes each, the low one first. An odd last byte is neither counted nor written.
+#![tactic(auto)]
+
 ghost use Rattle.std.specs.Prelude.{◌≡◌, ◌+◌, ◌*◌, ◌<◌, ◌≤◌, length, get_or, take};
 ghost use Rattle.rows.specs.Buffers.{written};
 ghost use Rattle.wire.specs.Wire.{numbers, bytes_of, with_number};

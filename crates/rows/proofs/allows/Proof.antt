@@ -7,29 +7,29 @@ use borrow.Author.Rules.{rules}
 use Rattle.rows.proofs.allows.Statement.{statement}
 use Rattle.rows.proofs.allows.Tie as tie
 
-returns : tie.Need-returns
-returns c = sym (allowed-symbol c.before.before.args.leaves _ _ c.if1.true)
+returns : tie.Need-returns-then-k-arities
+returns c = sym (allowed-symbol c.args.leaves _ _ c.if-k-arities.true)
 
-enum_told : tie.Need-enum-told
+enum_told : tie.Need-enum_told-1
 enum_told c = search rules
 
-enum-told-2 : tie.Need-enum-told-2
+enum-told-2 : tie.Need-enum_told-in-Blanks
 enum-told-2 c = search rules
 
-returns-2 : tie.Need-returns-2
-returns-2 c = simp (c.before.enum-told2.given.1, le-ltb _ _ c.before.before.before.if1.false, eq-eqb _ _ c.if2.true)
+returns-2 : tie.Need-returns-then-s-eq-BLANK
+returns-2 c = simp (c.in-Blanks.is, le-ltb _ _ c.if-k-arities.false, eq-eqb _ _ c.if-s-eq-BLANK.true)
 
-is-variable-requires : tie.Need-is-variable-requires
+is-variable-requires : tie.Need-is_variable-requires
 is-variable-requires c κs = search rules
 
-returns-3 : tie.Need-returns-3
-returns-3 c = simp (c.enum_told.given.1, le-ltb _ _ c.before.before.if1.false)
+returns-3 : tie.Need-returns-in-Symbols
+returns-3 c = simp (c.in-Symbols.is, le-ltb _ _ c.if-k-arities.false)
 
-returns-4 : tie.Need-returns-4
-returns-4 c = c.is_variable_lem.ensures ∙ simp (c.before.before.enum-told2.given.1, le-ltb _ _ c.before.before.before.before.if1.false, ne_eqb _ _ c.before.if2.false)
+returns-4 : tie.Need-returns-else-s-eq-BLANK
+returns-4 c = c.is_variable.ensures ∙ simp (c.in-Blanks.is, le-ltb _ _ c.if-k-arities.false, ne_eqb _ _ c.if-s-eq-BLANK.false)
 
-pub allows-spec : {M : Type 1} → statement M
-allows-spec =
+pub allows_spec : {M : Type 1} → statement M
+allows_spec =
     tie.close
     (tie.spec
     returns

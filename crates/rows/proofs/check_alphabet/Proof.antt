@@ -7,41 +7,39 @@ use borrow.Author.Rules.{rules}
 use Rattle.rows.proofs.check_alphabet.Statement.{statement}
 use Rattle.rows.proofs.check_alphabet.Tie as tie
 
-returns : tie.Need-returns
+returns : tie.Need-returns-then-n-lt1
 unfolding alphabet alphabet_size
-returns c = simp (lt-ltb _ _ c.if1.true)
+returns c = simp (lt-ltb _ _ c.if-n-lt1.true)
 
-returns-2 : tie.Need-returns-2
+returns-2 : tie.Need-returns-then-n-gt-ALPHABET_MOST
 unfolding alphabet alphabet_size
-returns-2 c = simp (le-ltb _ _ c.before.if1.false, lt-ltb _ _ c.if2.true)
+returns-2 c = simp (le-ltb _ _ c.if-n-lt1.false, lt-ltb _ _ c.if-n-gt-ALPHABET_MOST.true)
 
-check-arities-requires : tie.Need-check-arities-requires
+check-arities-requires : tie.Need-check_arities-requires
 check-arities-requires c κs = search rules
 
-enum_told : tie.Need-enum-told
+enum_told : tie.Need-enum_told-1
 enum_told c = search rules
 
-check-leaf-requires : tie.Need-check-leaf-requires
+check-leaf-requires : tie.Need-check_leaf-requires
 check-leaf-requires c κs = search rules
 
-enum-known-r : tie.Need-enum-known-r
+enum-known-r : tie.Need-enum_known-r
 enum-known-r c = search rules
 
-returns-3 : tie.Need-returns-3
+returns-3 : tie.Need-returns-in-Fine
 unfolding alphabet alphabet_size
 returns-3 c =
-    let d = c.before.before.before in
-    c.check-leaf.ensures
-    ∙ simp (le-ltb _ _ d.before.before.if1.false, le-ltb _ _ d.before.if2.false, sym d.check-arities.ensures ∙ c.before.enum_told.given.1)
+    c.check_leaf.ensures
+    ∙ simp (le-ltb _ _ c.if-n-lt1.false, le-ltb _ _ c.if-n-gt-ALPHABET_MOST.false, sym c.check_arities.ensures ∙ c.in-Fine.is)
 
-returns-4 : tie.Need-returns-4
+returns-4 : tie.Need-returns-in-Refused
 unfolding alphabet alphabet_size
 returns-4 c =
-    let d = c.before.before.before in
-    simp (le-ltb _ _ d.before.before.if1.false, le-ltb _ _ d.before.if2.false, sym d.check-arities.ensures ∙ c.before.r.given.1)
+    simp (le-ltb _ _ c.if-n-lt1.false, le-ltb _ _ c.if-n-gt-ALPHABET_MOST.false, sym c.check_arities.ensures ∙ c.in-Refused.is)
 
-pub check-alphabet-spec : {M : Type 1} → statement M
-check-alphabet-spec =
+pub check_alphabet_spec : {M : Type 1} → statement M
+check_alphabet_spec =
     tie.close
     (tie.spec
     returns

@@ -10,39 +10,39 @@ use borrow.Author.Rules.{rules}
 use Rattle.rows.proofs.check_leaf.Statement.{statement}
 use Rattle.rows.proofs.check_leaf.Tie as tie
 
-abbrev invariant-loop : tie.invariant-loop
+abbrev invariant-loop : tie.invariant-loop-i
 invariant-loop arities i₀ i = (i ≤ length arities) × (some_leaf arities ≡ some_leaf (drop i arities))
 
-abbrev decreases-loop : tie.decreases-loop
+abbrev decreases-loop : tie.decreases-loop-i
 decreases-loop arities i₀ i = length arities - i
 
-loop-holds : tie.Need-loop-init invariant-loop decreases-loop
+loop-holds : tie.Need-loop-i-init invariant-loop decreases-loop
 loop-holds c = search rules
 
-mul-if1 : tie.Need-overflow-mul-if1 invariant-loop decreases-loop
+mul-if1 : tie.Need-offset_bounds-arities-i invariant-loop decreases-loop
 mul-if1 c = search rules
 
-shared-slice-read-if1 : tie.Need-shared-slice-read-if1 invariant-loop decreases-loop
+shared-slice-read-if1 : tie.Need-bounds-arities-i invariant-loop decreases-loop
 shared-slice-read-if1 c = search rules
 
-returns : tie.Need-returns invariant-loop decreases-loop
-returns c = simp (c.before.before.before.loop.invariant.1, leaf_at c.before.before.before.before.args.arities.now _ c.before.before.loop-test.true, eq-eqb _ _ c.if1.true)
+returns : tie.Need-returns-then-arities-i-eq0 invariant-loop decreases-loop
+returns c = simp (c.loop-i.invariant.1, leaf_at c.args.arities.now _ c.loop-i-test.true, eq-eqb _ _ c.if-arities-i-eq0.true)
 
-add-i : tie.Need-overflow-add-i invariant-loop decreases-loop
+add-i : tie.Need-overflow_add-i invariant-loop decreases-loop
 add-i c = search rules
 
-loop-less : tie.Need-loop-smaller invariant-loop decreases-loop
+loop-less : tie.Need-loop-i-smaller invariant-loop decreases-loop
 loop-less c = search rules
 
-loop-again : tie.Need-loop-preserved invariant-loop decreases-loop
-loop-again c = (search rules, c.before.before.before.loop.invariant.1 ∙ simp (leaf_at c.before.before.before.before.args.arities.now _ c.before.before.loop-test.true, ne_eqb _ _ c.if1.false))
+loop-again : tie.Need-loop-i-preserved invariant-loop decreases-loop
+loop-again c = (search rules, c.loop-i.invariant.1 ∙ simp (leaf_at c.args.arities.now _ c.loop-i-test.true, ne_eqb _ _ c.if-arities-i-eq0.false))
 
-returns-2 : tie.Need-returns-2 invariant-loop decreases-loop
+returns-2 : tie.Need-returns invariant-loop decreases-loop
 unfolding some_leaf
-returns-2 c = simp (c.before.loop.invariant.1, drop_of_length-le c.before.before.args.arities.now c.loop-test.false)
+returns-2 c = simp (c.loop-i.invariant.1, drop_of_length-le c.args.arities.now c.loop-i-test.false)
 
-pub check-leaf-spec : {M : Type 1} → statement M
-check-leaf-spec =
+pub check_leaf_spec : {M : Type 1} → statement M
+check_leaf_spec =
     tie.close
     (tie.spec
     invariant-loop

@@ -9,29 +9,35 @@ use borrow.Author.Rules.{rules}
 use Rattle.rows.proofs.check_reading.Statement.{statement}
 use Rattle.rows.proofs.check_reading.Tie as tie
 
-check-size-requires : tie.Need-check-size-requires
+check-size-requires : tie.Need-check_size-requires
 check-size-requires c κs = search rules
 
-enum-known-f : tie.Need-enum-known-f
+enum-known-f : tie.Need-enum_known-f
 enum-known-f c = search rules
 
-enum_told : tie.Need-enum-told
+enum_told : tie.Need-enum_told-1
 enum_told c = search rules
 
-check-row-requires : tie.Need-check-row-requires
+check-row-requires : tie.Need-check_row-requires
 check-row-requires c κs =
-    let a = c.before.before.before.before.before.args in
-    omega (arith, c.before.before.before.before.before.requires, (sized_fits (length a.list.now) a.most (sym c.before.before.check-size.ensures ∙ c.enum_told.given.1)).1)
+    let a = c.args in
+    omega (arith, c.requires, (sized_fits (length a.list.now) a.most (sym c.check_size.ensures ∙ c.in-Whole.is)).1)
 
-returns : tie.Need-returns
+returns : tie.Need-returns-in-Faulty
 unfolding reading
-returns c = simp (sym c.before.before.before.check-size.ensures ∙ c.before.f.given.1)
+returns c = simp (sym c.check_size.ensures ∙ c.in-Faulty.is)
 
-returns-2 : tie.Need-returns-2
+returns-2 : tie.Need-returns-in-Whole
 unfolding reading
-returns-2 c = c.check-row.ensures ∙ simp (sym c.before.before.before.check-size.ensures ∙ c.before.enum_told.given.1)
+returns-2 c = c.check_row.ensures ∙ simp (sym c.check_size.ensures ∙ c.in-Whole.is)
 
-pub check-reading-spec : {M : Type 1} → statement M
-check-reading-spec =
+pub check_reading_spec : {M : Type 1} → statement M
+check_reading_spec =
     tie.close
-    (tie.spec check-size-requires enum-known-f enum_told check-row-requires returns returns-2)
+    (tie.spec
+    check-size-requires
+    enum-known-f
+    enum_told
+    check-row-requires
+    returns
+    returns-2)

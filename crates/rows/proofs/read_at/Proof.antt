@@ -10,43 +10,40 @@ use borrow.Author.Rules.{rules}
 use Rattle.rows.proofs.read_at.Statement.{statement}
 use Rattle.rows.proofs.read_at.Tie as tie
 
-returns : tie.Need-returns
+returns : tie.Need-returns-then-due-i
 returns c =
-    let s = c.before.before.before in
-    read_extra _ _ _ _ _ s.requires.0 s.requires.1 c.if1.true
+    read_extra _ _ _ _ _ c.requires.0 c.requires.1 c.if-due-i.true
 
-mul-s : tie.Need-overflow-mul-s
+mul-s : tie.Need-offset_bounds-row-i
 mul-s c = search rules
 
-shared-slice-read-s : tie.Need-shared-slice-read-s
+shared-slice-read-s : tie.Need-bounds-row-i
 shared-slice-read-s c = search rules
 
 allows-requires : tie.Need-allows-requires
 allows-requires c κs = search rules
 
-arity-of-requires : tie.Need-arity-of-requires
+arity-of-requires : tie.Need-arity_of-requires
 arity-of-requires c κs = search rules
 
-cast-t14 : tie.Need-overflow-cast-t14
+cast-t14 : tie.Need-overflow_cast-result
 cast-t14 c = search rules
 
-add-t15 : tie.Need-overflow-add-t15
+add-t15 : tie.Need-overflow_add-result
 add-t15 c = search rules
 
-returns-2 : tie.Need-returns-2
+returns-2 : tie.Need-returns-then-allows
 returns-2 c =
-    let s = c.before.before.before.before.before.before.before in
-    let a = s.args in
-    let next = read_next _ _ _ _ _ s.requires.0 s.requires.1 (omega (arith, s.requires.0.1, c.before.before.before.before.if1.false)) (sym c.before.before.allows.ensures ∙ c.before.if2.true) (omega (arith, c.arity-of.ensures)) in
-    subst (λ (n : ℕ). ReadTo a.arities.now (allowed a.leaves a.arities.now) a.row.now (a.i + 1) (a.due + n)) (sym c.arity-of.ensures) next
+    let a = c.args in
+    let next = read_next _ _ _ _ _ c.requires.0 c.requires.1 (omega (arith, c.requires.0.1, c.if-due-i.false)) (sym c.allows.ensures ∙ c.if-allows.true) (omega (arith, c.arity_of.ensures)) in
+    subst (λ (n : ℕ). ReadTo a.arities.now (allowed a.leaves a.arities.now) a.row.now (a.i + 1) (a.due + n)) (sym c.arity_of.ensures) next
 
-returns-3 : tie.Need-returns-3
+returns-3 : tie.Need-returns
 returns-3 c =
-    let s = c.before.before.before.before.before.before in
-    read_stray _ _ _ _ _ s.requires.0 s.requires.1 (omega (arith, s.requires.0.1, c.before.before.before.if1.false)) (sym c.before.allows.ensures ∙ c.if2.false)
+    read_stray _ _ _ _ _ c.requires.0 c.requires.1 (omega (arith, c.requires.0.1, c.if-due-i.false)) (sym c.allows.ensures ∙ c.if-allows.false)
 
-pub read-at-spec : {M : Type 1} → statement M
-read-at-spec =
+pub read_at_spec : {M : Type 1} → statement M
+read_at_spec =
     tie.close
     (tie.spec
     returns
