@@ -1,50 +1,51 @@
-// What a case answers: words, numbers and lists, a line each.
-use libc::STDOUT_FILENO;
+// What a case answers: words, numbers and lists, a line each. Where the output takes no more, the error is answered.
+use std::io;
 
 // A title, before the cases that follow.
-pub fn title(words: &[u8]) {
-    text(words);
-    text(b"\n");
+pub fn title(rt: &impl Print, words: &[u8]) -> io::Result<()> {
+    text(rt, words)?;
+    text(rt, b"\n")
 }
 
-pub fn text(words: &[u8]) {
-    io::write_all(STDOUT_FILENO, words);
+pub fn text(rt: &impl Print, words: &[u8]) -> io::Result<()> {
+    rt.write_all(words)
 }
 
-pub fn digits(n: usize) {
-    io::print_decimal(STDOUT_FILENO, n as u64);
+pub fn digits(rt: &impl Print, n: usize) -> io::Result<()> {
+    rt.print(n)
 }
 
 // A number, and a space before it.
-pub fn number(n: usize) {
-    text(b" ");
-    digits(n);
+pub fn number(rt: &impl Print, n: usize) -> io::Result<()> {
+    text(rt, b" ")?;
+    digits(rt, n)
 }
 
 // Words and a number.
-pub fn count(words: &[u8], n: usize) {
-    text(words);
-    number(n);
-    text(b"\n");
+pub fn count(rt: &impl Print, words: &[u8], n: usize) -> io::Result<()> {
+    text(rt, words)?;
+    number(rt, n)?;
+    text(rt, b"\n")
 }
 
 // Words and two numbers.
-pub fn pair(words: &[u8], m: usize, n: usize) {
-    text(words);
-    number(m);
-    count(b"", n);
+pub fn pair(rt: &impl Print, words: &[u8], m: usize, n: usize) -> io::Result<()> {
+    text(rt, words)?;
+    number(rt, m)?;
+    count(rt, b"", n)
 }
 
 // The numbers of a list. One of a hundred or more is not printed.
-pub fn list(xs: &[u16]) {
+pub fn list(rt: &impl Print, xs: &[u16]) -> io::Result<()> {
     if xs.len() < 100 {
-        numbers(xs);
+        numbers(rt, xs)?;
     }
+    Ok(())
 }
 
-fn numbers(xs: &[u16]) {
-    for i in 0..xs.len() {
-        number(xs[i] as usize);
+fn numbers(rt: &impl Print, xs: &[u16]) -> io::Result<()> {
+    for x in xs {
+        number(rt, *x as usize)?;
     }
-    text(b"\n");
+    text(rt, b"\n")
 }
