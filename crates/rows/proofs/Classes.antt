@@ -1,10 +1,10 @@
 -- Classes: two subtrees are equal exactly if their symbols are the same and their children have pairwise the same classes.
 -- Assumes nothing.
-use Prim.Native.Nat.{ℕ, zero, suc, ◌+◌, ◌≤◌, ◌<◌}
+use Prim.Native.Nat.{ℕ, ◌+◌, ◌≤◌, ◌<◌}
 use mathlib.Core.Path.{◌≡◌, refl, sym, ap, ◌∙◌, subst}
 use mathlib.Core.List.{List}
 use native.Mathlib.Omega.{arith}
-use lib.ListN.{length, get_or}
+use lib.ListN.{get_or}
 use Rattle.rows.specs.Tree.{Forest, Forest.none, Forest.grow, Tree, size, subtree_at}
 use Rattle.rows.specs.Parse.{parse}
 use Rattle.rows.specs.Classes.{FirstEqual, classes_of, classes, said, SameSign}

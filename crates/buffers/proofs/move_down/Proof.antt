@@ -13,68 +13,66 @@ use borrow.Author.Rules.{rules}
 use Rattle.buffers.proofs.move_down.Statement.{statement}
 use Rattle.buffers.proofs.move_down.Tie as tie
 
-abbrev invariant-loop : tie.invariant-loop
+abbrev invariant-loop : tie.invariant-loop-i
 invariant-loop b₀ from to len i₀ b i = (i ≤ len) × (length b ≡ length b₀) × (b ≡ written b₀ to (take i (take len (drop from b₀))))
 
-abbrev decreases-loop : tie.decreases-loop
+abbrev decreases-loop : tie.decreases-loop-i
 decreases-loop b₀ from to len i₀ b i = len - i
 
-loop-holds : tie.Need-loop-init invariant-loop decreases-loop
+loop-holds : tie.Need-loop-i-init invariant-loop decreases-loop
 loop-holds c = (search rules, search rules, sym (written_nil c.args.b.now c.args.to))
 
-add-b : tie.Need-overflow-add-b invariant-loop decreases-loop
+add-b : tie.Need-overflow_add-b invariant-loop decreases-loop
 add-b c = search rules
 
-mul-b : tie.Need-overflow-mul-b invariant-loop decreases-loop
+mul-b : tie.Need-offset_bounds-b-from invariant-loop decreases-loop
 mul-b c = search rules
 
-slice-read-b : tie.Need-slice-read-b invariant-loop decreases-loop
+slice-read-b : tie.Need-bounds-b-from invariant-loop decreases-loop
 slice-read-b c = search rules
 
-add-b-2 : tie.Need-overflow-add-b-2 invariant-loop decreases-loop
+add-b-2 : tie.Need-overflow_add-b-in-loop-i invariant-loop decreases-loop
 add-b-2 c = search rules
 
-mul-b-2 : tie.Need-overflow-mul-b-2 invariant-loop decreases-loop
+mul-b-2 : tie.Need-offset_bounds-b-to invariant-loop decreases-loop
 mul-b-2 c = search rules
 
-slice-write-b : tie.Need-slice-write-b invariant-loop decreases-loop
+slice-write-b : tie.Need-bounds-b-to invariant-loop decreases-loop
 slice-write-b c = search rules
 
-add-i : tie.Need-overflow-add-i invariant-loop decreases-loop
+add-i : tie.Need-overflow_add-i invariant-loop decreases-loop
 add-i c = search rules
 
-loop-less : tie.Need-loop-smaller invariant-loop decreases-loop
+loop-less : tie.Need-loop-i-smaller invariant-loop decreases-loop
 loop-less c = search rules
 
-loop-again : tie.Need-loop-preserved invariant-loop decreases-loop
+loop-again : tie.Need-loop-i-preserved invariant-loop decreases-loop
 loop-again c =
-    let s = c.before.before.before in
-    let l = c.before.before.loop in
-    let b = s.args.b.now in
-    let part = take s.args.len (drop s.args.from b) in
-    let long : length part ≡ s.args.len = simp (length-take, length-drop) (omega arith) in
-    let read : get_or l.b (s.args.from + l.i) 0 ≡ get_or part l.i 0 =
-    ap (λ (x : List ℕ). get_or x (s.args.from + l.i) 0) l.invariant.2
-    ∙ unturned b s.args.to part l.i (s.args.from + l.i) (omega arith) (omega arith) (omega arith)
-    ∙ sym (get_or-take s.args.len (drop s.args.from b) l.i 0 (omega arith) ∙ get_or-drop s.args.from b l.i 0) in (
+    let l = c.loop-i in
+    let b = c.args.b.now in
+    let part = take c.args.len (drop c.args.from b) in
+    let long : length part ≡ c.args.len = simp (length-take, length-drop) (omega arith) in
+    let read : get_or l.b (c.args.from + l.i) 0 ≡ get_or part l.i 0 =
+    ap (λ (x : List ℕ). get_or x (c.args.from + l.i) 0) l.invariant.2
+    ∙ unturned b c.args.to part l.i (c.args.from + l.i) (omega arith) (omega arith) (omega arith)
+    ∙ sym (get_or-take c.args.len (drop c.args.from b) l.i 0 (omega arith) ∙ get_or-drop c.args.from b l.i 0) in (
       search rules,
       search rules,
-      ap (set l.b (s.args.to + l.i)) read
-          ∙ ap (λ (x : List ℕ). set x (s.args.to + l.i) (get_or part l.i 0)) l.invariant.2
-          ∙ turn b s.args.to part l.i (omega arith) (omega arith),
+      ap (set l.b (c.args.to + l.i)) read
+          ∙ ap (λ (x : List ℕ). set x (c.args.to + l.i) (get_or part l.i 0)) l.invariant.2
+          ∙ turn b c.args.to part l.i (omega arith) (omega arith),
     )
 
-same_length : tie.Need-same-length invariant-loop decreases-loop
+same_length : tie.Need-shape_of-b invariant-loop decreases-loop
 same_length c = search rules
 
 returns : tie.Need-returns invariant-loop decreases-loop
 returns c =
-    let s = c.before.before in
-    let l = c.before.loop in
-    let b = s.args.b.now in
-    let part = take s.args.len (drop s.args.from b) in
-    let long : length part ≡ s.args.len = simp (length-take, length-drop) (omega arith) in
-    l.invariant.2 ∙ ap (written b s.args.to) (take_all l.i part (omega arith))
+    let l = c.loop-i in
+    let b = c.args.b.now in
+    let part = take c.args.len (drop c.args.from b) in
+    let long : length part ≡ c.args.len = simp (length-take, length-drop) (omega arith) in
+    l.invariant.2 ∙ ap (written b c.args.to) (take_all l.i part (omega arith))
 
 pub move_down_spec : {M : Type 1} → statement M
 move_down_spec =

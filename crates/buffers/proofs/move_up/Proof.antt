@@ -14,13 +14,13 @@ use borrow.Author.Rules.{rules}
 use Rattle.buffers.proofs.move_up.Statement.{statement}
 use Rattle.buffers.proofs.move_up.Tie as tie
 
-abbrev invariant-loop : tie.invariant-loop
+abbrev invariant-loop : tie.invariant-loop-i
 invariant-loop b₀ from to len i₀ b i = (i ≤ len) × (length b ≡ length b₀) × (b ≡ written b₀ (to + i) (drop i (take len (drop from b₀))))
 
-abbrev decreases-loop : tie.decreases-loop
+abbrev decreases-loop : tie.decreases-loop-i
 decreases-loop b₀ from to len i₀ b i = i
 
-loop-holds : tie.Need-loop-init invariant-loop decreases-loop
+loop-holds : tie.Need-loop-i-init invariant-loop decreases-loop
 loop-holds c =
     let b = c.args.b.now in
     let part = take c.args.len (drop c.args.from b) in
@@ -30,57 +30,56 @@ loop-holds c =
       sym (rw (drop_of_length-le part long) (written_nil b (c.args.to + c.args.len))),
     )
 
-sub-i : tie.Need-overflow-sub-i invariant-loop decreases-loop
+sub-i : tie.Need-overflow_sub-i invariant-loop decreases-loop
 sub-i c = search rules
 
-add-b : tie.Need-overflow-add-b invariant-loop decreases-loop
+add-b : tie.Need-overflow_add-b invariant-loop decreases-loop
 add-b c = search rules
 
-mul-b : tie.Need-overflow-mul-b invariant-loop decreases-loop
+mul-b : tie.Need-offset_bounds-b-from invariant-loop decreases-loop
 mul-b c = search rules
 
-slice-read-b : tie.Need-slice-read-b invariant-loop decreases-loop
+slice-read-b : tie.Need-bounds-b-from invariant-loop decreases-loop
 slice-read-b c = search rules
 
-add-b-2 : tie.Need-overflow-add-b-2 invariant-loop decreases-loop
+add-b-2 : tie.Need-overflow_add-b-in-loop-i invariant-loop decreases-loop
 add-b-2 c = search rules
 
-mul-b-2 : tie.Need-overflow-mul-b-2 invariant-loop decreases-loop
+mul-b-2 : tie.Need-offset_bounds-b-to invariant-loop decreases-loop
 mul-b-2 c = search rules
 
-slice-write-b : tie.Need-slice-write-b invariant-loop decreases-loop
+slice-write-b : tie.Need-bounds-b-to invariant-loop decreases-loop
 slice-write-b c = search rules
 
-loop-less : tie.Need-loop-smaller invariant-loop decreases-loop
+loop-less : tie.Need-loop-i-smaller invariant-loop decreases-loop
 loop-less c = search rules
 
-loop-again : tie.Need-loop-preserved invariant-loop decreases-loop
+loop-again : tie.Need-loop-i-preserved invariant-loop decreases-loop
 loop-again c =
-    let s = c.before.before.before in
-    let l = c.before.before.loop in
-    let b = s.args.b.now in
-    let part = take s.args.len (drop s.args.from b) in
+    let l = c.loop-i in
+    let b = c.args.b.now in
+    let part = take c.args.len (drop c.args.from b) in
     let k = l.i - 1 in
     let e : l.i ≡ k + 1 = omega arith in
-    let long : length part ≡ s.args.len = simp (length-take, length-drop) (omega arith) in
-    let read : get_or l.b (s.args.from + k) 0 ≡ get_or part k 0 =
-    ap (λ (x : List ℕ). get_or x (s.args.from + k) 0) l.invariant.2
-    ∙ unturned_back b s.args.to part l.i (s.args.from + k) (omega arith) (omega arith)
-    ∙ sym (get_or-take s.args.len (drop s.args.from b) k 0 (omega arith) ∙ get_or-drop s.args.from b k 0) in (
+    let long : length part ≡ c.args.len = simp (length-take, length-drop) (omega arith) in
+    let read : get_or l.b (c.args.from + k) 0 ≡ get_or part k 0 =
+    ap (λ (x : List ℕ). get_or x (c.args.from + k) 0) l.invariant.2
+    ∙ unturned_back b c.args.to part l.i (c.args.from + k) (omega arith) (omega arith)
+    ∙ sym (get_or-take c.args.len (drop c.args.from b) k 0 (omega arith) ∙ get_or-drop c.args.from b k 0) in (
       search rules,
       search rules,
-      ap (set l.b (s.args.to + k)) read
-          ∙ ap (λ (x : List ℕ). set x (s.args.to + k) (get_or part k 0))
-          (l.invariant.2 ∙ ap (λ (n : ℕ). written b (s.args.to + n) (drop n part)) e)
-          ∙ turn_back b s.args.to part k (omega arith) (omega arith),
+      ap (set l.b (c.args.to + k)) read
+          ∙ ap (λ (x : List ℕ). set x (c.args.to + k) (get_or part k 0))
+          (l.invariant.2 ∙ ap (λ (n : ℕ). written b (c.args.to + n) (drop n part)) e)
+          ∙ turn_back b c.args.to part k (omega arith) (omega arith),
     )
 
-same_length : tie.Need-same-length invariant-loop decreases-loop
+same_length : tie.Need-shape_of-b invariant-loop decreases-loop
 same_length c = search rules
 
 returns : tie.Need-returns invariant-loop decreases-loop
 returns c =
-    let l = c.before.loop in
+    let l = c.loop-i in
     let e : l.i ≡ 0 = omega arith in
     l.invariant.2 ∙ rw (e, add-zero)
 

@@ -25,15 +25,20 @@ kept_small (Short n) = omega arith
 kept_small (Stale p) = omega arith
 kept_small (Misclassed p) = omega arith
 
-kept-number-requires : tie.Need-kept-number-requires
+kept-number-requires : tie.Need-kept_number-requires
 kept-number-requires c κs = search rules
 
-add-result : tie.Need-overflow-add-result
-add-result c = omega (arith, c.kept-number.ensures, kept_small c.before.args.fault)
+add-result : tie.Need-overflow_add-result
+add-result c = omega (arith, c.kept_number.ensures, kept_small c.args.fault)
 
 returns : tie.Need-returns
 unfolding on_record_number
-returns c = ap (λ (n : ℕ). 40 + n) c.kept-number.ensures
+returns c = ap (λ (n : ℕ). 40 + n) c.kept_number.ensures
 
-pub on-record-number-spec : {M : Type 1} → statement M
-on-record-number-spec = tie.close (tie.spec kept-number-requires add-result returns)
+pub on_record_number_spec : {M : Type 1} → statement M
+on_record_number_spec =
+    tie.close
+    (tie.spec
+    kept-number-requires
+    add-result
+    returns)

@@ -42,14 +42,19 @@ others (Catalogue f) one = refl
 others (Bars f) one = refl
 others (Programme n f) one = absurd (none 13 0 (1 ∷ 2 ∷ 3 ∷ 4 ∷ 5 ∷ 6 ∷ 7 ∷ 8 ∷ 9 ∷ 10 ∷ 11 ∷ 12 ∷ []) (search rules) one)
 
-enum-known-refusal : tie.Need-enum-known-refusal
+enum-known-refusal : tie.Need-enum_known-refusal
 enum-known-refusal c = search rules
 
-returns : tie.Need-returns
-returns c = others c.before.args.refusal c.match.keys2
+returns : tie.Need-returns-in_default
+returns c = others c.args.refusal c.in_default.in_default-own.keys2
 
-returns-2 : tie.Need-returns-2
+returns-2 : tie.Need-returns
 returns-2 c = search rules
 
-pub programme-of-spec : {M : Type 1} → statement M
-programme-of-spec = tie.close (tie.spec enum-known-refusal returns returns-2)
+pub programme_of_spec : {M : Type 1} → statement M
+programme_of_spec =
+    tie.close
+    (tie.spec
+    enum-known-refusal
+    returns
+    returns-2)

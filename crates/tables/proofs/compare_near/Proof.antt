@@ -4,26 +4,26 @@ use borrow.Author.Rules.{rules}
 use Rattle.tables.proofs.compare_near.Statement.{statement}
 use Rattle.tables.proofs.compare_near.Tie as tie
 
-is-right-requires : tie.Need-is-right-requires
+is-right-requires : tie.Need-is_right-requires
 is-right-requires c κs = search rules
 
-same_length : tie.Need-same-length
+same_length : tie.Need-shape_of-standing-then-is_right
 same_length c = search rules
 
-returns : tie.Need-returns
-returns c = c.before.before.before.is_right.ensures c.if1.true
+returns : tie.Need-returns-then-is_right
+returns c = c.is_right.ensures c.if-is_right.true
 
-compare-beside-requires : tie.Need-compare-beside-requires
+compare-beside-requires : tie.Need-compare_beside-requires
 compare-beside-requires c κs = search rules
 
-same-length-2 : tie.Need-same-length-2
+same-length-2 : tie.Need-shape_of-standing
 same-length-2 c = search rules
 
-returns-2 : tie.Need-returns-2
+returns-2 : tie.Need-returns
 returns-2 c = search rules
 
-pub compare-near-spec : {M : Type 1} → statement M
-compare-near-spec =
+pub compare_near_spec : {M : Type 1} → statement M
+compare_near_spec =
     tie.close
     (tie.spec
     is-right-requires

@@ -10,78 +10,70 @@ use borrow.Author.Rules.{rules}
 use Rattle.tables.proofs.fill_ends.Statement.{statement}
 use Rattle.tables.proofs.fill_ends.Tie as tie
 
-abbrev invariant-loop : tie.invariant-loop
+abbrev invariant-loop : tie.invariant-loop-p
 invariant-loop arities row table₀ end₀ p₀ table end p = (length table ≡ length table₀) × Filling arities row table₀ table p end
 
-abbrev decreases-loop : tie.decreases-loop
+abbrev decreases-loop : tie.decreases-loop-p
 decreases-loop arities row table₀ end₀ p₀ table end p = p
 
 -- the children of the symbol before p
-module _ (c : tie.After-arity-of invariant-loop decreases-loop) where
-  abbrev s : tie.Start invariant-loop decreases-loop
-  s = c.before.before.before.before.before.before.before
+module _ (c : tie.After-arity_of-children invariant-loop decreases-loop) where
+  hopping : Hopping c.loop-p.table c.loop-p.p c.loop-p.end c.arity_of-children.result (behind c.args.arities.now c.args.row.now c.loop-p.p)
+  hopping = filling_hopping c.requires c.loop-p.invariant.1 (omega (arith, c.loop-p-test.true)) c.arity_of-children.result c.arity_of-children.ensures
 
-  abbrev l : tie.At-loop invariant-loop decreases-loop
-  l = c.before.before.before
-
-  hopping : Hopping l.loop.table l.loop.p l.loop.end c.arity-of.result (behind s.args.arities.now s.args.row.now l.loop.p)
-  hopping = filling_hopping s.pre l.loop.inv.1 (omega (arith, c.before.before.loop-test.true)) c.arity-of.result c.arity-of.ensures
-
-loop-holds : tie.Need-loop-init invariant-loop decreases-loop
+loop-holds : tie.Need-loop-p-init invariant-loop decreases-loop
 loop-holds c =
-    let a = c.before.before.before.args in
+    let a = c.args in
     (refl, filling_none a.arities.now a.row.now a.table.now (length a.row.now))
 
-sub-arity-of : tie.Need-overflow-sub-arity-of invariant-loop decreases-loop
+sub-arity-of : tie.Need-overflow_sub-p invariant-loop decreases-loop
 sub-arity-of c = search rules
 
-mul-arity-of : tie.Need-overflow-mul-arity-of invariant-loop decreases-loop
+mul-arity-of : tie.Need-offset_bounds-row-p invariant-loop decreases-loop
 mul-arity-of c = search rules
 
-shared-slice-read-arity-of : tie.Need-shared-slice-read-arity-of invariant-loop decreases-loop
+shared-slice-read-arity-of : tie.Need-bounds-row-p invariant-loop decreases-loop
 shared-slice-read-arity-of c = search rules
 
-arity-of-requires : tie.Need-arity-of-requires invariant-loop decreases-loop
+arity-of-requires : tie.Need-arity_of-children-requires invariant-loop decreases-loop
 arity-of-requires c κs = search rules
 
-cast-children : tie.Need-overflow-cast-children invariant-loop decreases-loop
+cast-children : tie.Need-overflow_cast-children invariant-loop decreases-loop
 cast-children c = search rules
 
-hop-over-requires : tie.Need-hop-over-requires invariant-loop decreases-loop
-hop-over-requires c κs = (_, hopping c.before)
+hop-over-requires : tie.Need-hop_over-end-requires invariant-loop decreases-loop
+hop-over-requires c κs = (_, hopping c)
 
-sub-p : tie.Need-overflow-sub-p invariant-loop decreases-loop
+sub-p : tie.Need-overflow_sub-p-in-loop-p invariant-loop decreases-loop
 sub-p c = search rules
 
-cast-table : tie.Need-overflow-cast-table invariant-loop decreases-loop
+cast-table : tie.Need-overflow_cast-table invariant-loop decreases-loop
 cast-table c =
-    let h = c.before.before in
-    let small = filling_small (s h).requires (l h).loop.invariant.1 (omega (arith, c.before.before.before.before.loop-test.true)) h.arity-of.result h.arity-of.ensures in
-    record { fits = omega (arith, small c.hop-over.result (c.hop-over.ensures _ (hopping h))) }
+    let small = filling_small c.requires c.loop-p.invariant.1 (omega (arith, c.loop-p-test.true)) c.arity_of-children.result c.arity_of-children.ensures in
+    omega (arith, small c.hop_over-end.result (c.hop_over-end.ensures _ (hopping c.before)))
 
-mul-table : tie.Need-overflow-mul-table invariant-loop decreases-loop
+mul-table : tie.Need-offset_bounds-table-p invariant-loop decreases-loop
 mul-table c = search rules
 
-slice-write-table : tie.Need-slice-write-table invariant-loop decreases-loop
+slice-write-table : tie.Need-bounds-table-p invariant-loop decreases-loop
 slice-write-table c = search rules
 
-loop-less : tie.Need-loop-smaller invariant-loop decreases-loop
+loop-less : tie.Need-loop-p-smaller invariant-loop decreases-loop
 loop-less c = search rules
 
-loop-again : tie.Need-loop-preserved invariant-loop decreases-loop
+loop-again : tie.Need-loop-p-preserved invariant-loop decreases-loop
 loop-again c =
-    let h = c.before.before in
-    let more = filling_more (s h).requires (l h).loop.invariant.1 (omega (arith, c.before.before.before.before.loop-test.true)) h.arity-of.result h.arity-of.ensures in
-    (simp length-set (l h).loop.invariant.0, more c.hop-over.result (c.hop-over.ensures _ (hopping h)))
+    let more = filling_more c.requires c.loop-p.invariant.1 (omega (arith, c.loop-p-test.true)) c.arity_of-children.result c.arity_of-children.ensures in
+    (simp length-set c.loop-p.invariant.0, more c.hop_over-end.result (c.hop_over-end.ensures _ (hopping c.before)))
 
-same_length : tie.Need-same-length invariant-loop decreases-loop
+same_length : tie.Need-shape_of-table invariant-loop decreases-loop
 same_length c = search rules
 
 returns : tie.Need-returns invariant-loop decreases-loop
-returns c = filling_all c.before.loop.invariant.1 (omega (arith, c.loop-test.false))
+returns c = filling_all c.loop-p.invariant.1 (omega (arith, c.loop-p-test.false))
 
-pub fill-ends-spec : {M : Type 1} → statement M
-fill-ends-spec =
+pub fill_ends_spec : {M : Type 1} → statement M
+fill_ends_spec =
     tie.close
     (tie.spec
     invariant-loop

@@ -10,36 +10,34 @@ use borrow.Author.Rules.{rules}
 use Rattle.tables.proofs.is_right.Statement.{statement}
 use Rattle.tables.proofs.is_right.Tie as tie
 
-agree-beside-requires : tie.Need-agree-beside-requires
+agree-beside-requires : tie.Need-agree_beside-requires
 agree-beside-requires c κs = search rules
 
-enum_told : tie.Need-enum-told
+enum_told : tie.Need-enum_told-1
 enum_told c = search rules
 
-enum-known-trees : tie.Need-enum-known-trees
+enum-known-trees : tie.Need-enum_known-trees
 enum-known-trees c = search rules
 
-same_length : tie.Need-same-length
+same_length : tie.Need-shape_of-standing-in-No
 same_length c = search rules
 
-returns : tie.Need-returns
+returns : tie.Need-returns-in-No
 returns c e = let z : ◌≡◌ {A = ℕ} 0 1 = cc in absurd (omega arith)
 
-same-length-2 : tie.Need-same-length-2
+same-length-2 : tie.Need-shape_of-standing-in-To
 same-length-2 c = search rules
 
-returns-2 : tie.Need-returns-2
+returns-2 : tie.Need-returns-in-To
 returns-2 c e =
-    let x = c.before in
-    let b = x.before.before.before.before in
-    let a = b.before.before.before.before.before.before.args in
-    let l = b.agree-beside.new.1.1.1.0 in
+    let a = c.args in
+    let l = c.agree_beside.new.standing in
     passed_all a.arities.now a.row.now a.table.now l _ _
-    (subst (Agrees a.arities.now a.row.now a.table.now 0 l) x.trees.given.1 b.agree-beside.ensures)
+    (subst (Agrees a.arities.now a.row.now a.table.now 0 l) c.in-To.is c.agree_beside.ensures)
     (eqb-true _ _ e)
 
-pub is-right-spec : {M : Type 1} → statement M
-is-right-spec =
+pub is_right_spec : {M : Type 1} → statement M
+is_right_spec =
     tie.close
     (tie.spec
     agree-beside-requires

@@ -4,11 +4,15 @@ use Rattle.tables.proofs.Pass.{stop_count, passed_all}
 use Rattle.tables.proofs.read_whole.Statement.{statement}
 use Rattle.tables.proofs.read_whole.Tie as tie
 
-returns : tie.Need-returns
-returns c = λ A w t l h. passed_all A w t l _ _ h c.if1.true
+returns : tie.Need-returns-then-trees-eq1
+returns c = λ A w t l h. passed_all A w t l _ _ h c.if-trees-eq1.true
 
-returns-2 : tie.Need-returns-2
-returns-2 c = λ A w t l h. stop_count A w t l _ _ h c.if1.false
+returns-2 : tie.Need-returns-else-trees-eq1
+returns-2 c = λ A w t l h. stop_count A w t l _ _ h c.if-trees-eq1.false
 
-pub read-whole-spec : {M : Type 1} → statement M
-read-whole-spec = tie.close (tie.spec returns returns-2)
+pub read_whole_spec : {M : Type 1} → statement M
+read_whole_spec =
+    tie.close
+    (tie.spec
+    returns
+    returns-2)

@@ -14,68 +14,67 @@ use Rattle.tables.proofs.stand_at.Tie as tie
 few : (s : tie.Start) → s.args.trees + (s.args.p + 1) ≤ length s.args.row.now
 few s = omega (arith, s.requires.1.counted, few-behind s.args.arities.now s.args.row.now (s.args.p + 1) (omega (arith, s.requires.0.2)))
 
-add-standing : tie.Need-overflow-add-standing
+add-standing : tie.Need-overflow_add-standing
 add-standing c = search rules
 
-cast-standing : tie.Need-overflow-cast-standing
+cast-standing : tie.Need-overflow_cast-standing
 cast-standing c = search rules
 
-mul-standing : tie.Need-overflow-mul-standing
+mul-standing : tie.Need-offset_bounds-standing-trees
 mul-standing c = omega (arith, few c, c.requires.0.0)
 
-slice-write-standing : tie.Need-slice-write-standing
+slice-write-standing : tie.Need-bounds-standing-trees
 slice-write-standing c = omega (arith, few c, c.requires.0.1)
 
-mul-s : tie.Need-overflow-mul-s
+mul-s : tie.Need-offset_bounds-row-p
 mul-s c = search rules
 
-shared-slice-read-s : tie.Need-shared-slice-read-s
+shared-slice-read-s : tie.Need-bounds-row-p
 shared-slice-read-s c = search rules
 
-cast-s : tie.Need-overflow-cast-s
-cast-s c = omega (arith, c.shared-slice-known.given c.before.args.p)
+cast-s : tie.Need-overflow_cast-s
+cast-s c = omega (arith, c.shared_slice_known-1.given c.args.p)
 
-same_length : tie.Need-same-length
+same_length : tie.Need-shape_of-standing-then-arities-s
 same_length c = search rules
 
-returns : tie.Need-returns
-returns c = let s = c.before.before in stop_stray s.args.arities.now s.args.row.now s.args.p s.requires.0.2 c.if1.true
+returns : tie.Need-returns-then-arities-s
+returns c = stop_stray c.args.arities.now c.args.row.now c.args.p c.requires.0.2 c.if-arities-s.true
 
-mul-a : tie.Need-overflow-mul-a
+mul-a : tie.Need-offset_bounds-arities-s
 mul-a c = search rules
 
-shared-slice-read-a : tie.Need-shared-slice-read-a
+shared-slice-read-a : tie.Need-bounds-arities-s
 shared-slice-read-a c = search rules
 
-cast-a : tie.Need-overflow-cast-a
-cast-a c = let a = c.before.before.before.args in omega (arith, c.shared-slice-known2.given (get_or a.row.now a.p 0))
+cast-a : tie.Need-overflow_cast-a
+cast-a c = let a = c.args in omega (arith, c.shared_slice_known-2-1.given (get_or a.row.now a.p 0))
 
-same-length-2 : tie.Need-same-length-2
+same-length-2 : tie.Need-shape_of-standing-then-trees-a
 same-length-2 c = search rules
 
-returns-2 : tie.Need-returns-2
-returns-2 c = let s = c.before.before.before.before in stop_few s.args.arities.now s.args.row.now s.args.trees s.args.p s.requires.0.2 s.requires.1.counted c.if2.true
+returns-2 : tie.Need-returns-then-trees-a
+returns-2 c = stop_few c.args.arities.now c.args.row.now c.args.trees c.args.p c.requires.0.2 c.requires.1.counted c.if-trees-a.true
 
-add-t8 : tie.Need-overflow-add-t8
-add-t8 c = let s = c.before.before.before.before in omega (arith, few s, s.requires.0.0)
+add-t8 : tie.Need-overflow_add-result
+add-t8 c = omega (arith, few c.before.before.before.before, c.requires.0.0)
 
-mul-t16 : tie.Need-overflow-mul-t16
-mul-t16 c = let s = c.before.before.before.before in omega (arith, few s, s.requires.0.0)
+mul-t16 : tie.Need-offset_bounds-standing-trees-2
+mul-t16 c = omega (arith, few c.before.before.before.before, c.requires.0.0)
 
-slice-read-t9 : tie.Need-slice-read-t9
-slice-read-t9 c = let s = c.before.before.before.before.before in simp length-set (omega (arith, few s, s.requires.0.1))
+slice-read-t9 : tie.Need-bounds-standing-trees-2
+slice-read-t9 c = simp length-set (omega (arith, few c.before.before.before.before.before, c.requires.0.1))
 
-same-length-3 : tie.Need-same-length-3
+same-length-3 : tie.Need-shape_of-standing
 same-length-3 c = search rules
 
-returns-3 : tie.Need-returns-3
+returns-3 : tie.Need-returns
 returns-3 c =
-    let s = c.before.before.before.before.before in
-    let a = s.args in
-    stands_more a.arities.now a.row.now a.standing.now a.trees a.p (get_or a.arities.now (get_or a.row.now a.p 0) 0) s.requires.0.1 s.requires.0.2 s.requires.1 c.before.before.before.if1.false refl c.before.if2.false
+    let a = c.args in
+    stands_more a.arities.now a.row.now a.standing.now a.trees a.p (get_or a.arities.now (get_or a.row.now a.p 0) 0) c.requires.0.1 c.requires.0.2 c.requires.1 c.if-arities-s.false refl c.if-trees-a.false
 
-pub stand-at-spec : {M : Type 1} → statement M
-stand-at-spec =
+pub stand_at_spec : {M : Type 1} → statement M
+stand_at_spec =
     tie.close
     (tie.spec
     add-standing
