@@ -9,4 +9,7 @@ returns : tie.Need-returns
 returns c = omega (arith, numbers-length c.args.bytes.now)
 
 pub count_spec : {M : Type 1} → statement M
-count_spec = tie.close (tie.spec returns)
+count_spec =
+    tie.close
+    (tie.spec
+    returns)

@@ -17,43 +17,41 @@ use Rattle.wire.proofs.encode_behind.Tie as tie
 within : (s : tie.Start) → 2 * s.args.before ≤ length s.args.bytes.now
 within s = omega (arith, numbers-length s.args.bytes.now, s.requires)
 
-mul-encode : tie.Need-overflow-mul-encode
+mul-encode : tie.Need-overflow_mul-before
 mul-encode c = omega (arith, within c.before.before)
 
-sub-encode : tie.Need-overflow-sub-encode
+sub-encode : tie.Need-slice_bounds-encode-count
 sub-encode c = omega (arith, within c.before.before)
 
-part-encode-start : tie.Need-slice-bounds-encode-start
+part-encode-start : tie.Need-slice_bounds-encode-start
 part-encode-start c = omega (arith, within c.before.before)
 
-part-encode-end : tie.Need-slice-bounds-encode-end
+part-encode-end : tie.Need-slice_bounds-encode-end
 part-encode-end c = search rules
 
 encode-requires : tie.Need-encode-requires
 encode-requires c κs =
-    let s = c.before.before.before in
-    let b : List ℕ = s.args.bytes.now in
-    let k : ℕ = 2 * s.args.before in
+    let b : List ℕ = c.args.bytes.now in
+    let k : ℕ = 2 * c.args.before in
     omega (
       arith,
       numbers-length b,
       numbers-length (take (length b - k) (drop k b)),
       length-take-le (length b - k) (drop k b) (simp length-drop (omega arith)),
-      s.requires,
+      c.requires,
     )
 
-same_length : tie.Need-same-length
+same_length : tie.Need-shape_of-bytes
 same_length c = search rules
 
 returns : tie.Need-returns
 returns c =
-    let s = c.before.before.before.before.before.before in
-    let b : List ℕ = s.args.bytes.now in
-    let k : ℕ = 2 * s.args.before in
-    ap (λ (l : List ℕ). take k b ++ (l ++ drop (length b - k) (drop k b))) c.before.before.encode.ensures ∙ lent_tail b k (bytes_of s.args.list.now)
+    let b : List ℕ = c.args.bytes.now in
+    let k : ℕ = 2 * c.args.before in
+    ap (λ (l : List ℕ). take k b ++ (l ++ drop (length b - k) (drop k b))) c.encode.ensures ∙ lent_tail b k (bytes_of c.args.list.now)
 
-pub encode-behind-spec : {M : Type 1} → statement M
-encode-behind-spec =
+pub encode_behind_spec : {M : Type 1} → statement M
+encode_behind_spec =
     tie.close
     (tie.spec
     mul-encode

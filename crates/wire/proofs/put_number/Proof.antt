@@ -13,36 +13,36 @@ use Rattle.wire.proofs.put_number.Tie as tie
 within : (c : tie.Start) → 2 * c.args.i + 1 < length c.args.bytes.now
 within c = pair_within c.args.bytes.now c.args.i c.requires
 
-cast-bytes : tie.Need-overflow-cast-bytes
+cast-bytes : tie.Need-overflow_cast-bytes
 cast-bytes c = search rules
 
-mul-bytes : tie.Need-overflow-mul-bytes
+mul-bytes : tie.Need-overflow_mul-bytes
 mul-bytes c = omega (arith, within c)
 
-slice-write-bytes : tie.Need-slice-write-bytes
+slice-write-bytes : tie.Need-bounds-bytes-i
 slice-write-bytes c = omega (arith, within c)
 
-cast-bytes-2 : tie.Need-overflow-cast-bytes-2
+cast-bytes-2 : tie.Need-overflow_cast-bytes-2
 cast-bytes-2 c = search rules
 
-mul-bytes-2 : tie.Need-overflow-mul-bytes-2
+mul-bytes-2 : tie.Need-overflow_mul-bytes-2
 mul-bytes-2 c = omega (arith, within c)
 
-add-bytes : tie.Need-overflow-add-bytes
+add-bytes : tie.Need-overflow_add-bytes
 add-bytes c = omega (arith, within c)
 
-slice-write-bytes-2 : tie.Need-slice-write-bytes-2
+slice-write-bytes-2 : tie.Need-bounds-bytes-i-2
 slice-write-bytes-2 c = simp length-set (omega (arith, within c))
 
-same_length : tie.Need-same-length
+same_length : tie.Need-shape_of-bytes
 same_length c = simp length-set
 
 returns : tie.Need-returns
 unfolding with_number
 returns c = refl
 
-pub put-number-spec : {M : Type 1} → statement M
-put-number-spec =
+pub put_number_spec : {M : Type 1} → statement M
+put_number_spec =
     tie.close
     (tie.spec
     cast-bytes

@@ -14,52 +14,50 @@ use borrow.Author.Rules.{rules}
 use Rattle.wire.proofs.widen.Statement.{statement}
 use Rattle.wire.proofs.widen.Tie as tie
 
-abbrev invariant-loop : tie.invariant-loop
+abbrev invariant-loop : tie.invariant-loop-i
 invariant-loop bytes room₀ i₀ room i = (i ≤ length bytes) × (length room ≡ length room₀) × (room ≡ written room₀ 0 (take i bytes))
 
-abbrev decreases-loop : tie.decreases-loop
+abbrev decreases-loop : tie.decreases-loop-i
 decreases-loop bytes room₀ i₀ room i = length bytes - i
 
-loop-holds : tie.Need-loop-init invariant-loop decreases-loop
+loop-holds : tie.Need-loop-i-init invariant-loop decreases-loop
 loop-holds c = (search rules, search rules, sym (written_nil c.args.room.now 0))
 
-shared-slice-read-room : tie.Need-shared-slice-read-room invariant-loop decreases-loop
+shared-slice-read-room : tie.Need-bounds-bytes-i invariant-loop decreases-loop
 shared-slice-read-room c = search rules
 
-cast-room : tie.Need-overflow-cast-room invariant-loop decreases-loop
-cast-room c = omega (arith, (c.shared-slice-known.given c.before.before.loop.i).fits)
+cast-room : tie.Need-overflow_cast-room invariant-loop decreases-loop
+cast-room c = omega (arith, (c.shared_slice_known-1.given c.loop-i.i).fits)
 
-mul-room : tie.Need-overflow-mul-room invariant-loop decreases-loop
+mul-room : tie.Need-offset_bounds-room-i invariant-loop decreases-loop
 mul-room c = search rules
 
-slice-write-room : tie.Need-slice-write-room invariant-loop decreases-loop
+slice-write-room : tie.Need-bounds-room-i invariant-loop decreases-loop
 slice-write-room c = search rules
 
-add-i : tie.Need-overflow-add-i invariant-loop decreases-loop
+add-i : tie.Need-overflow_add-i invariant-loop decreases-loop
 add-i c = search rules
 
-loop-less : tie.Need-loop-smaller invariant-loop decreases-loop
+loop-less : tie.Need-loop-i-smaller invariant-loop decreases-loop
 loop-less c = search rules
 
-loop-again : tie.Need-loop-preserved invariant-loop decreases-loop
+loop-again : tie.Need-loop-i-preserved invariant-loop decreases-loop
 loop-again c =
-    let s = c.before.before.before in
-    let l = c.before.before.loop in
-    let v = s.args.bytes.now in (
+    let l = c.loop-i in
+    let v = c.args.bytes.now in (
       search rules,
       search rules,
       ap (λ (x : List ℕ). set x l.i (get_or v l.i 0)) l.invariant.2
-          ∙ (rw zero-add at (turn s.args.room.now 0 v l.i (omega arith) (omega arith))),
+          ∙ (rw zero-add at (turn c.args.room.now 0 v l.i (omega arith) (omega arith))),
     )
 
-same_length : tie.Need-same-length invariant-loop decreases-loop
+same_length : tie.Need-shape_of-room invariant-loop decreases-loop
 same_length c = search rules
 
 returns : tie.Need-returns invariant-loop decreases-loop
 returns c =
-    let s = c.before.before in
-    let l = c.before.loop in
-    l.invariant.2 ∙ ap (written s.args.room.now 0) (take_all l.i s.args.bytes.now c.loop-test.false)
+    let l = c.loop-i in
+    l.invariant.2 ∙ ap (written c.args.room.now 0) (take_all l.i c.args.bytes.now c.loop-i-test.false)
 
 pub widen_spec : {M : Type 1} → statement M
 widen_spec =

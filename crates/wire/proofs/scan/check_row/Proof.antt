@@ -9,26 +9,26 @@ use Rattle.wire.proofs.scan.check_row.Tie as tie
 largest-requires : tie.Need-largest-requires
 largest-requires c κs = search rules
 
-cast-if1 : tie.Need-overflow-cast-if1
+cast-if1 : tie.Need-overflow_cast-largest
 cast-if1 c = search rules
 
-read-on-requires : tie.Need-read-on-requires
-read-on-requires c κs = (read_start _ _ _, c.before.before.before.before.requires)
+read-on-requires : tie.Need-read_on-requires
+read-on-requires c κs = (read_start _ _ _, c.requires)
 
-returns : tie.Need-returns
+returns : tie.Need-returns-then-arities-largest
 returns c = search rules
 
-read-stretches-requires : tie.Need-read-stretches-requires
-read-stretches-requires c κs = (c.before.before.before.before.requires, λ k h. omega (arith, c.before.largest.ensures k h, c.if1.false))
+read-stretches-requires : tie.Need-read_stretches-requires
+read-stretches-requires c κs = (c.requires, λ k h. omega (arith, c.largest.ensures k h, c.if-arities-largest.false))
 
-read-on-requires-2 : tie.Need-read-on-requires-2
-read-on-requires-2 c κs = (c.read-stretches.ensures, c.before.before.before.before.before.requires)
+read-on-requires-2 : tie.Need-read_on-requires-2
+read-on-requires-2 c κs = (c.read_stretches.ensures, c.requires)
 
-returns-2 : tie.Need-returns-2
+returns-2 : tie.Need-returns
 returns-2 c = search rules
 
-pub check-row-spec : {M : Type 1} → statement M
-check-row-spec =
+pub check_row_spec : {M : Type 1} → statement M
+check_row_spec =
     tie.close
     (tie.spec
     largest-requires

@@ -11,41 +11,41 @@ use borrow.Author.Rules.{rules}
 use Rattle.wire.proofs.scan.largest.Statement.{statement}
 use Rattle.wire.proofs.scan.largest.Tie as tie
 
-abbrev invariant-loop : tie.invariant-loop
+abbrev invariant-loop : tie.invariant-loop-k
 invariant-loop row most₀ k₀ k-end most k = (k-end ≡ length (numbers row)) × ((j : ℕ) → j < k → get_or (numbers row) j 0 ≤ most)
 
-abbrev decreases-loop : tie.decreases-loop
+abbrev decreases-loop : tie.decreases-loop-k
 decreases-loop row most₀ k₀ k-end most k = length (numbers row) - k
 
-count-requires : tie.Need-count-requires invariant-loop decreases-loop
+count-requires : tie.Need-count-k-end-requires invariant-loop decreases-loop
 count-requires c κs = search rules
 
-loop-holds : tie.Need-loop-init invariant-loop decreases-loop
-loop-holds c = (c.count.ensures, λ j h. absurd (omega arith))
+loop-holds : tie.Need-loop-k-init invariant-loop decreases-loop
+loop-holds c = (c.count-k-end.ensures, λ j h. absurd (omega arith))
 
-number-at-requires : tie.Need-number-at-requires invariant-loop decreases-loop
+number-at-requires : tie.Need-number_at-s-requires invariant-loop decreases-loop
 number-at-requires c κs = search rules
 
-add-k : tie.Need-overflow-add-k invariant-loop decreases-loop
+add-k : tie.Need-overflow_step-k invariant-loop decreases-loop
 add-k c = search rules
 
-loop-less : tie.Need-loop-smaller invariant-loop decreases-loop
+loop-less : tie.Need-loop-k-smaller invariant-loop decreases-loop
 loop-less c = search rules
 
-loop-again : tie.Need-loop-preserved invariant-loop decreases-loop
+loop-again : tie.Need-loop-k-preserved invariant-loop decreases-loop
 loop-again c =
-    let l = c.before.before.before.loop in
-    let w = numbers c.before.before.before.before.before.before.args.row.now in
-    let s = c.before.number_at.ensures in
-    let above : (l.most ≤ c.if1.most) × (get_or w l.k 0 ≤ c.if1.most) =
-    ⊎_elim (λ t. (omega (arith, t, s), omega (arith, t, s))) (λ t. (omega (arith, t, s), omega (arith, t, s))) c.if1.branch in
-    (l.invariant.0, below_more (λ j. get_or w j 0 ≤ c.if1.most) l.k (λ j h. (omega (arith, l.invariant.1 j h, above.0))) above.1)
+    let l = c.loop-k in
+    let w = numbers c.args.row.now in
+    let s = c.number_at-s.ensures in
+    let above : (l.most ≤ c.if-most-s.most) × (get_or w l.k 0 ≤ c.if-most-s.most) =
+    ⊎_elim (λ t. (omega (arith, t, s), omega (arith, t, s))) (λ t. (omega (arith, t, s), omega (arith, t, s))) c.if-most-s.branch-raw in
+    (l.invariant.0, below_more (λ j. get_or w j 0 ≤ c.if-most-s.most) l.k (λ j h. (omega (arith, l.invariant.1 j h, above.0))) above.1)
 
 returns : tie.Need-returns invariant-loop decreases-loop
-returns c = λ k h. c.before.loop.invariant.1 k (omega (arith, c.before.loop.invariant.0, c.loop-test.false))
+returns c = λ k h. c.loop-k.invariant.1 k (omega (arith, c.loop-k.invariant.0, c.loop-k-test.false))
 
-pub largest-spec : {M : Type 1} → statement M
-largest-spec =
+pub largest_spec : {M : Type 1} → statement M
+largest_spec =
     tie.close
     (tie.spec
     invariant-loop

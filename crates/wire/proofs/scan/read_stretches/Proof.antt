@@ -16,113 +16,110 @@ use borrow.Author.Rules.{rules}
 use Rattle.wire.proofs.scan.read_stretches.Statement.{statement}
 use Rattle.wire.proofs.scan.read_stretches.Tie as tie
 
-abbrev invariant-loop : tie.invariant-loop
+abbrev invariant-loop : tie.invariant-loop-i
 invariant-loop arities row n i₀ due₀ i due = (n ≡ length (numbers row)) × ReadTo arities (symbol arities) (numbers row) i due
 
-abbrev decreases-loop : tie.decreases-loop
+abbrev decreases-loop : tie.decreases-loop-i
 decreases-loop arities row n i₀ due₀ i due = n - i
 
-module _ (c : tie.In-loop invariant-loop decreases-loop) where
-  abbrev start : tie.Start invariant-loop decreases-loop
-  start = c.before.before.before.before.before
-
+module _ (c : tie.In-loop-i invariant-loop decreases-loop) where
   abbrev A : List ℕ
-  A = start.args.arities.now
+  A = c.args.arities.now
 
   abbrev row : List ℕ
-  row = start.args.row.now
+  row = c.args.row.now
 
   abbrev i : ℕ
-  i = c.before.loop.i
+  i = c.loop-i.i
 
   abbrev due : ℕ
-  due = c.before.loop.due
+  due = c.loop-i.due
 
   -- the stretch stands in the row
   within : i + 16 ≤ length (numbers row)
-  within = omega (arith, c.loop-test.true, c.before.loop.invariant.0)
+  within = omega (arith, c.loop-i-test.true, c.loop-i.invariant.0)
 
   -- no arity is over 16 bits
   small : (k : ℕ) → get_or A k 0 ≤ 65535
-  small k = omega (arith, c.before.before.before.before.shared-slice-known.given k)
+  small k = omega (arith, c.shared_slice_known-1.given k)
 
   -- its numbers are symbols
   symbols : (j : ℕ) → j < 16 → get_or (numbers row) (i + j) 0 < length A
-  symbols j h = start.pre.1 (i + j) (omega (arith, within))
+  symbols j h = c.requires.1 (i + j) (omega (arith, within))
 
-count-requires : tie.Need-count-requires invariant-loop decreases-loop
+count-requires : tie.Need-count-n-requires invariant-loop decreases-loop
 count-requires c κs = search rules
 
-loop-holds : tie.Need-loop-init invariant-loop decreases-loop
-loop-holds c = (c.count.ensures, read_start _ _ _)
+loop-holds : tie.Need-loop-i-init invariant-loop decreases-loop
+loop-holds c = (c.count-n.ensures, read_start _ _ _)
 
-add-loop : tie.Need-overflow-add-loop invariant-loop decreases-loop
-add-loop c = omega (arith, c.loop.invariant.1.0, c.before.before.before.before.requires.0)
+add-loop : tie.Need-overflow_add-i invariant-loop decreases-loop
+add-loop c = omega (arith, c.loop-i.invariant.1.0, c.requires.0)
 
-add-end : tie.Need-overflow-add-end invariant-loop decreases-loop
-add-end c = omega (arith, within c, (start c).requires.0)
+add-end : tie.Need-overflow_add-end invariant-loop decreases-loop
+add-end c = omega (arith, within c, c.requires.0)
 
-mul-add-arities : tie.Need-overflow-mul-add-arities invariant-loop decreases-loop
-mul-add-arities c = omega (arith, within c.before, (start c.before).pre.0)
+mul-add-arities : tie.Need-overflow_mul-i invariant-loop decreases-loop
+mul-add-arities c = omega (arith, within c.before, c.requires.0)
 
-mul-add-arities-2 : tie.Need-overflow-mul-add-arities-2 invariant-loop decreases-loop
-mul-add-arities-2 c = omega (arith, within c.before, (start c.before).pre.0)
+mul-add-arities-2 : tie.Need-overflow_mul-end invariant-loop decreases-loop
+mul-add-arities-2 c = omega (arith, within c.before, c.requires.0)
 
-sub-add-arities : tie.Need-overflow-sub-add-arities invariant-loop decreases-loop
+sub-add-arities : tie.Need-slice_bounds-add_arities-count invariant-loop decreases-loop
 sub-add-arities c = search rules
 
-part-add-arities-start : tie.Need-slice-bounds-add-arities-start invariant-loop decreases-loop
+part-add-arities-start : tie.Need-slice_bounds-add_arities-start invariant-loop decreases-loop
 part-add-arities-start c = search rules
 
-part-add-arities-end : tie.Need-slice-bounds-add-arities-end invariant-loop decreases-loop
-part-add-arities-end c = omega (arith, within c.before, numbers-length (row c.before))
+part-add-arities-end : tie.Need-slice_bounds-add_arities-end invariant-loop decreases-loop
+part-add-arities-end c =
+    let s = c.before in
+    omega (arith, within s, numbers-length (row s))
 
-add-arities-requires : tie.Need-add-arities-requires invariant-loop decreases-loop
+add-arities-requires : tie.Need-add_arities-due-requires invariant-loop decreases-loop
 add-arities-requires c κs =
     let l = c.before.before in
     let long = part_length (row l) (i l) 16 (within l) in
     (omega (arith, long), λ k h. omega (arith, symbols l k (omega (arith, h, long)), part_at (row l) (i l) 16 (within l) k (omega (arith, h, long))))
 
-add-due : tie.Need-overflow-add-due invariant-loop decreases-loop
+add-due : tie.Need-overflow_add-due invariant-loop decreases-loop
 add-due c =
-    let l = c.before.before.before in
-    omega (arith, c.add-arities.ensures.1, l.before.loop.invariant.1.0, l.before.loop.invariant.1.2, (start l).requires.0)
+    omega (arith, c.add_arities-due.ensures.1, c.loop-i.invariant.1.0, c.loop-i.invariant.1.2, c.requires.0)
 
-loop-less : tie.Need-loop-smaller invariant-loop decreases-loop
+loop-less : tie.Need-loop-i-smaller-then-end-due invariant-loop decreases-loop
 loop-less c = search rules
 
-loop-again : tie.Need-loop-preserved invariant-loop decreases-loop
+loop-again : tie.Need-loop-i-preserved-then-end-due invariant-loop decreases-loop
 loop-again c =
     let l = c.before.before.before in
-    let sum : c.add-arities.result ≡ children (A l) (numbers (row l)) (i l) 16 = c.add-arities.ensures.0 ∙ part_children (row l) (i l) 16 (within l) (A l) in
-    let read = read_many (A l) (numbers (row l)) (i l) (due l) l.before.loop.invariant.1 16 (within l) c.before.before.if1.true (symbols l) (small l) in
-    (l.before.loop.invariant.0, subst (λ (k : ℕ). ReadTo (A l) (symbol (A l)) (numbers (row l)) (i l + 16) (due l + k)) (sym sum) read)
+    let sum : c.add_arities-due.result ≡ children (A l) (numbers (row l)) (i l) 16 = c.add_arities-due.ensures.0 ∙ part_children (row l) (i l) 16 (within l) (A l) in
+    let read = read_many (A l) (numbers (row l)) (i l) (due l) c.loop-i.invariant.1 16 (within l) c.if-end-due.true (symbols l) (small l) in
+    (c.loop-i.invariant.0, subst (λ (k : ℕ). ReadTo (A l) (symbol (A l)) (numbers (row l)) (i l + 16) (due l + k)) (sym sum) read)
 
-read-fours-requires : tie.Need-read-fours-requires invariant-loop decreases-loop
+read-fours-requires : tie.Need-read_fours-after-requires invariant-loop decreases-loop
 read-fours-requires c κs =
     let l = c.before in
-    (l.before.loop.invariant.1, within l, (start l).requires.0, λ k h e. (start l).requires.1 k (omega (arith, e, within l)))
+    (c.loop-i.invariant.1, within l, c.requires.0, λ k h e. c.requires.1 k (omega (arith, e, within l)))
 
-returns : tie.Need-returns invariant-loop decreases-loop
-returns c = c.before.before.read-fours.ensures
+returns : tie.Need-returns-then-after-end invariant-loop decreases-loop
+returns c = c.read_fours-after.ensures
 
-loop-less-2 : tie.Need-loop-smaller-2 invariant-loop decreases-loop
+loop-less-2 : tie.Need-loop-i-smaller invariant-loop decreases-loop
 loop-less-2 c = search rules
 
-loop-again-2 : tie.Need-loop-preserved-2 invariant-loop decreases-loop
-loop-again-2 c = (c.before.before.before.before.before.loop.invariant.0, c.before.before.read-fours.ensures)
+loop-again-2 : tie.Need-loop-i-preserved invariant-loop decreases-loop
+loop-again-2 c = (c.loop-i.invariant.0, c.read_fours-after.ensures)
 
-read-fours-requires-2 : tie.Need-read-fours-requires-2 invariant-loop decreases-loop
+read-fours-requires-2 : tie.Need-read_fours-requires invariant-loop decreases-loop
 read-fours-requires-2 c κs =
-    let l = c.before.loop in
-    let s = c.before.before.before.before.before in
-    (l.invariant.1, omega (arith, l.invariant.0), s.requires.0, λ k h e. s.requires.1 k (omega (arith, e, l.invariant.0)))
+    let l = c.loop-i in
+    (l.invariant.1, omega (arith, l.invariant.0), c.requires.0, λ k h e. c.requires.1 k (omega (arith, e, l.invariant.0)))
 
-returns-2 : tie.Need-returns-2 invariant-loop decreases-loop
-returns-2 c = c.read-fours2.ensures
+returns-2 : tie.Need-returns invariant-loop decreases-loop
+returns-2 c = c.read_fours.ensures
 
-pub read-stretches-spec : {M : Type 1} → statement M
-read-stretches-spec =
+pub read_stretches_spec : {M : Type 1} → statement M
+read_stretches_spec =
     tie.close
     (tie.spec
     invariant-loop
