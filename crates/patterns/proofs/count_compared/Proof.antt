@@ -8,43 +8,42 @@ use borrow.Author.Rules.{rules}
 use Rattle.patterns.proofs.count_compared.Statement.{statement}
 use Rattle.patterns.proofs.count_compared.Tie as tie
 
-abbrev invariant-loop : tie.invariant-loop
+abbrev invariant-loop : tie.invariant-loop-m
 invariant-loop pattern m₀ m = BlankFrom pattern m
 
-abbrev decreases-loop : tie.decreases-loop
+abbrev decreases-loop : tie.decreases-loop-m
 decreases-loop pattern m₀ m = m
 
-loop-holds : tie.Need-loop-init invariant-loop decreases-loop
+loop-holds : tie.Need-loop-m-init invariant-loop decreases-loop
 loop-holds c = record { within = omega arith; blank = λ i l u. absurd (omega arith) }
 
-sub-if1 : tie.Need-overflow-sub-if1 invariant-loop decreases-loop
+sub-if1 : tie.Need-overflow_sub-m invariant-loop decreases-loop
 sub-if1 c = search rules
 
-mul-if1 : tie.Need-overflow-mul-if1 invariant-loop decreases-loop
+mul-if1 : tie.Need-offset_bounds-pattern-m invariant-loop decreases-loop
 mul-if1 c = search rules
 
-shared-slice-read-if1 : tie.Need-shared-slice-read-if1 invariant-loop decreases-loop
-shared-slice-read-if1 c = omega (arith, c.before.before.loop.invariant.within, c.before.loop-test.true)
+shared-slice-read-if1 : tie.Need-bounds-pattern-m invariant-loop decreases-loop
+shared-slice-read-if1 c = omega (arith, c.loop-m.invariant.within, c.loop-m-test.true)
 
-returns : tie.Need-returns invariant-loop decreases-loop
-returns c = c.before.before.before.loop.invariant
+returns : tie.Need-returns-then-pattern-m invariant-loop decreases-loop
+returns c = c.loop-m.invariant
 
-sub-m : tie.Need-overflow-sub-m invariant-loop decreases-loop
+sub-m : tie.Need-overflow_sub-m-in-loop-m invariant-loop decreases-loop
 sub-m c = search rules
 
-loop-less : tie.Need-loop-smaller invariant-loop decreases-loop
+loop-less : tie.Need-loop-m-smaller invariant-loop decreases-loop
 loop-less c = search rules
 
-loop-again : tie.Need-loop-preserved invariant-loop decreases-loop
+loop-again : tie.Need-loop-m-preserved invariant-loop decreases-loop
 loop-again c =
-    let l = c.before.before.before in
-    blank_more l.before.args.pattern.now l.loop.m c.before.before.loop-test.true l.loop.invariant (sym (leaf-blank _ c.if1.false))
+    blank_more c.args.pattern.now c.loop-m.m c.loop-m-test.true c.loop-m.invariant (sym (leaf-blank _ c.if-pattern-m.false))
 
-returns-2 : tie.Need-returns-2 invariant-loop decreases-loop
-returns-2 c = c.before.loop.invariant
+returns-2 : tie.Need-returns invariant-loop decreases-loop
+returns-2 c = c.loop-m.invariant
 
-pub count-compared-spec : {M : Type 1} → statement M
-count-compared-spec =
+pub count_compared_spec : {M : Type 1} → statement M
+count_compared_spec =
     tie.close
     (tie.spec
     invariant-loop

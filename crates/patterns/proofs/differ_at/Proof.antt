@@ -15,31 +15,33 @@ use Rattle.patterns.proofs.differ_at.Tie as tie
 entry : (s : tie.Start) → (s.args.j < get_or s.args.table.now s.args.j 0) × (get_or s.args.table.now s.args.j 0 ≤ length s.args.row.now) × (length s.args.row.now ≤ row_most)
 entry s = let e = s.requires.0 in (e.past _ s.requires.2, e.within _ s.requires.2, e.most)
 
-mul-size : tie.Need-overflow-mul-size
+mul-size : tie.Need-offset_bounds-table-j
 mul-size c = search rules
 
-shared-slice-read-size : tie.Need-shared-slice-read-size
+shared-slice-read-size : tie.Need-bounds-table-j
 shared-slice-read-size c = search rules
 
-cast-size : tie.Need-overflow-cast-size
-cast-size c = record { fits = omega (arith, entry c.before.before.before) }
+cast-size : tie.Need-overflow_cast-size
+cast-size c = omega (arith, entry c.before.before.before)
 
-sub-size : tie.Need-overflow-sub-size
+sub-size : tie.Need-overflow_sub-size
 sub-size c = omega (arith, entry c.before.before.before)
 
-count-same-requires : tie.Need-count-same-requires
-count-same-requires c κs = let s = c.before.before.before in (omega (arith, entry s, s.requires.1), omega (arith, entry s))
+count-same-requires : tie.Need-count_same-requires
+count-same-requires c κs =
+    let s = c.before.before.before in
+    (omega (arith, entry s, c.requires.1), omega (arith, entry s))
 
-add-t10 : tie.Need-overflow-add-t10
+add-t10 : tie.Need-overflow_add-result
 add-t10 c =
-    let s = c.before.before.before.before in let g = s.args in let n = get_or g.table.now g.j 0 - g.j in
-    record { fits = omega (arith, entry s, c.count_same.ensures, front_most n (drop g.first g.row.now) (take n (drop g.j g.row.now))) }
+    let g = c.args in let n = get_or g.table.now g.j 0 - g.j in
+    omega (arith, entry c.before.before.before.before, c.count_same.ensures, front_most n (drop g.first g.row.now) (take n (drop g.j g.row.now)))
 
 returns : tie.Need-returns
-returns c = let g = c.before.before.before.before.args in ap (λ n. Fails g.k (g.j + n)) c.count_same.ensures
+returns c = let g = c.args in ap (λ n. Fails g.k (g.j + n)) c.count_same.ensures
 
-pub differ-at-spec : {M : Type 1} → statement M
-differ-at-spec =
+pub differ_at_spec : {M : Type 1} → statement M
+differ_at_spec =
     tie.close
     (tie.spec
     mul-size

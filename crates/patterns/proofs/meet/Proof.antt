@@ -31,60 +31,62 @@ same-marks : (s : tie.Start) → (get_or s.args.marks.now s.args.i 0 ≡ 0 → �
     → s.args.marks.now ≡ marked s.args.marks.now s.args.i s.args.j (get_or s.args.marks.now s.args.i 0)
 same-marks s z = ap (marked s.args.marks.now s.args.i s.args.j) (sym (later s z))
 
-mul-mark : tie.Need-overflow-mul-mark
+mul-mark : tie.Need-offset_bounds-marks-i
 mul-mark c = search rules
 
-element-copy-out-mark : tie.Need-element-copy-out-mark
+element-copy-out-mark : tie.Need-bounds-marks-i
 element-copy-out-mark c = search rules
 
-cast-mark : tie.Need-overflow-cast-mark
-cast-mark c = let s = c.before in record { fits = omega (arith, s.requires.marks.all s.args.i, s.requires.most) }
+cast-mark : tie.Need-overflow_cast-mark
+cast-mark c = omega (arith, c.requires.marks.all c.args.i, c.requires.most)
 
-add-marks : tie.Need-overflow-add-marks
+add-marks : tie.Need-overflow_add-marks
 add-marks c = search rules
 
-cast-marks : tie.Need-overflow-cast-marks
+cast-marks : tie.Need-overflow_cast-marks
 cast-marks c = search rules
 
-mul-marks : tie.Need-overflow-mul-marks
+mul-marks : tie.Need-offset_bounds-marks-i-then-mark-eq0
 mul-marks c = search rules
 
-element-write-marks : tie.Need-element-write-marks
+element-write-marks : tie.Need-bounds-marks-i-then-mark-eq0
 element-write-marks c = search rules
 
-returns : tie.Need-returns
+returns : tie.Need-returns-then-mark-eq0
 returns c =
-    let s = c.before.before in let g = s.args in
-    let z : 0 ≡ get_or g.marks.now g.i 0 = sym c.if1.true in
+    let g = c.args in
+    let z : 0 ≡ get_or g.marks.now g.i 0 = sym c.if-mark-eq0.true in
     (ap (met g.classes.now g.end g.j) z, ap (marked g.marks.now g.i g.j) z)
 
-sub-if2 : tie.Need-overflow-sub-if2
+sub-if2 : tie.Need-overflow_sub-mark
 sub-if2 c = search rules
 
-mul-if2 : tie.Need-overflow-mul-if2
-mul-if2 c = let s = c.before.before in record { fits = omega (arith, s.requires.marks.all s.args.i, s.requires.most) }
+mul-if2 : tie.Need-offset_bounds-classes-mark
+mul-if2 c = omega (arith, c.requires.marks.all c.args.i, c.requires.most)
 
-shared-slice-read-if2 : tie.Need-shared-slice-read-if2
-shared-slice-read-if2 c = let s = c.before.before.before in omega (arith, s.requires.marks.all s.args.i, s.requires.long, c.before.if1.false)
+shared-slice-read-if2 : tie.Need-bounds-classes-mark
+shared-slice-read-if2 c = omega (arith, c.requires.marks.all c.args.i, c.requires.long, c.if-mark-eq0.false)
 
-mul-if2-2 : tie.Need-overflow-mul-if2-2
+mul-if2-2 : tie.Need-offset_bounds-classes-j
 mul-if2-2 c = search rules
 
-shared-slice-read-if2-2 : tie.Need-shared-slice-read-if2-2
+shared-slice-read-if2-2 : tie.Need-bounds-classes-j
 shared-slice-read-if2-2 c = search rules
 
-returns-2 : tie.Need-returns-2
+returns-2 : tie.Need-returns-then-classes-mark
 returns-2 c =
-    let s = c.before.before.before.before.before in let z = c.before.before.before.if1.false in
-    (decides s z true (eq-eqb _ _ c.if2.true), same-marks s z)
+    let s = c.before.before.before.before.before.before in
+    let z = c.if-mark-eq0.false in
+    (decides s z true (eq-eqb _ _ c.if-classes-mark.true), same-marks s z)
 
-returns-3 : tie.Need-returns-3
+returns-3 : tie.Need-returns
 returns-3 c =
-    let s = c.before.before.before.before.before in let z = c.before.before.before.if1.false in
-    (decides s z false (ne_eqb _ _ c.if2.false), same-marks s z)
+    let s = c.before.before.before.before.before.before in
+    let z = c.if-mark-eq0.false in
+    (decides s z false (ne_eqb _ _ c.if-classes-mark.false), same-marks s z)
 
-pub meet-spec : {M : Type 1} → statement M
-meet-spec =
+pub meet_spec : {M : Type 1} → statement M
+meet_spec =
     tie.close
     (tie.spec
     mul-mark
