@@ -5,26 +5,26 @@
 set -eu
 cd "$(dirname "$0")/.."
 prefix=${1:-}
-rt staticlib host
+. host/kit.sh
+build_archive
 out=target/host
 mkdir -p $out
-cp target/staticlib/libhost.a $out/libsparrowhem.a
+cp $archive $out/libsparrowhem.a
 for example in example morning exchange bars; do
     if [ "$(uname -m)" = x86_64 ]; then
         ${CC:-cc} -std=c99 -O2 -Wall -Wextra -Iinclude -o $out/$example host/$example.c -L$out -lsparrowhem
     else
-        . host/kit.sh
         kit_cc $out/$example host/$example.c
     fi
 done
 echo "built $out/libsparrowhem.a, $out/example, $out/morning, $out/exchange and $out/bars"
 [ -n "$prefix" ] || exit 0
 version=$(sed -n 's/^#define SPARROWHEM_VERSION  *"\(.*\)"$/\1/p' include/sparrowhem.h)
-rt check seek
+bin/seek </dev/null >/dev/null
 mkdir -p "$prefix/lib/pkgconfig" "$prefix/include" "$prefix/bin" "$prefix/share/man/man1"
 cp $out/libsparrowhem.a "$prefix/lib/"
 cp include/sparrowhem.h "$prefix/include/"
-cp target/bin/seek "$prefix/bin/"
+cp crates/seek/out/seek "$prefix/bin/"
 cp man/seek.1 "$prefix/share/man/man1/"
 sed "s,@prefix@,$prefix,; s,@version@,$version," sparrowhem.pc.in >"$prefix/lib/pkgconfig/sparrowhem.pc"
 echo "installed below $prefix"

@@ -1,7 +1,7 @@
 #!/usr/bin/env bash
 # The archive for C from the host's side: its header, the examples, the worked file of docs/CATALOGUE-FILE.md, a C program of checks, trees
-# that are printed in the literature, and random inputs held against an independent model. The C programs are for x86-64, compiled by the
-# Rattle kit alone; on Arm they run under the kit's emulator.
+# that are printed in the literature, and random inputs held against an independent model. The C programs are compiled by the Rattle kit
+# alone.
 # The random inputs go by a seed; SEED and INPUTS in the environment set them.
 # needs: gcc rustc
 set -u
@@ -90,14 +90,14 @@ seek_installed() {
 # stacked PROGRAM: one that measures the stack, on the rows of the benchmark.
 stacked() { "$@" <$out/rows; }
 thread_by_gcc() {
-    gcc -std=gnu99 -pedantic -O2 -Wall -Wextra -Werror -Iinclude -pthread -o $out/thread tests/host/thread.c target/staticlib/libhost.a
+    gcc -std=gnu99 -pedantic -O2 -Wall -Wextra -Werror -Iinclude -pthread -o $out/thread tests/host/thread.c $archive
 }
 rows_of_the_benchmark() { $out/shapes >$out/rows; }
 checks_by_gcc() {
-    gcc -std=c99 -pedantic -O2 -Wall -Wextra -Werror -Iinclude -o $out/checks_gcc tests/host/checks.c target/staticlib/libhost.a
+    gcc -std=c99 -pedantic -O2 -Wall -Wextra -Werror -Iinclude -o $out/checks_gcc tests/host/checks.c $archive
 }
 
-try "the archive is proved and built" rt staticlib host
+try "the archive is proved and built" build_archive
 try "the header is C99" header_as gcc -x c -std=c99 -pedantic
 try "the header is C11" header_as gcc -x c -std=c11 -pedantic
 try "the header is C++" header_as "$kit_tools/bin/clang" --target=$kit_target -nostdinc -isystem host/freestanding -x c++ -std=c++11 -pedantic

@@ -28,7 +28,7 @@ def main():
             sys.exit(f"tests/attack/edits has none of {crate}")
     with tempfile.TemporaryDirectory() as room:
         copy = os.path.join(room, "copy")
-        shutil.copytree(ROOT, copy, ignore=shutil.ignore_patterns(".git", "must-fail"))
+        shutil.copytree(ROOT, copy, ignore=shutil.ignore_patterns(".git", "must-fail", "out", "target"))
         edits = 0
         for crate in crates:
             placed = shutil.copytree(os.path.join(EDITS, crate), os.path.join(copy, "crates", crate, "must-fail"))
