@@ -12,52 +12,53 @@ use Rattle.classes.proofs.fill_beside.Statement.{statement}
 use Rattle.classes.proofs.fill_beside.Tie as tie
 
 -- the heads that were cleared are those that are lent
-module _ (c : tie.After-clear-heads) where
+module _ (c : tie.After-clear_heads) where
   abbrev k : ℕ
-  k = c.before.before.heads-of.result
+  k = c.heads_of-k.result
 
   abbrev cleared : List ℕ
-  cleared = c.clear-heads.new.0
+  cleared = c.clear_heads.new.heads
 
   long : length cleared ≡ k
-  long = c.clear-heads.ensures.0 ∙ length-take-le k c.before.before.before.before.before.before.before.args.room.now c.before.before.heads-of.ensures.2
+  long = c.clear_heads.ensures.0 ∙ length-take-le k c.args.room.now c.heads_of-k.ensures.2
 
-heads-of-requires : tie.Need-heads-of-requires
+heads-of-requires : tie.Need-heads_of-k-requires
 heads-of-requires c κs = search rules
 
-slice-relend-prefix-clear-heads : tie.Need-slice-relend-prefix-clear-heads
+slice-relend-prefix-clear-heads : tie.Need-slice_bounds-clear_heads-end
 slice-relend-prefix-clear-heads c = search rules
 
-slice-aggregate-clear-heads : tie.Need-slice-aggregate-clear-heads
-slice-aggregate-clear-heads c = sym (length-take-le _ _ c.before.heads-of.ensures.2)
+slice-aggregate-clear-heads : tie.Need-slice_bounds-clear_heads-end-2
+slice-aggregate-clear-heads c = sym (length-take-le _ _ c.heads_of-k.ensures.2)
 
-clear-heads-requires : tie.Need-clear-heads-requires
+clear-heads-requires : tie.Need-clear_heads-requires
 clear-heads-requires c κs = search rules
 
-slice-relend-prefix-fill-over : tie.Need-slice-relend-prefix-fill-over
+slice-relend-prefix-fill-over : tie.Need-slice_bounds-fill_over-end
 slice-relend-prefix-fill-over c = search rules
 
-slice-aggregate-fill-over : tie.Need-slice-aggregate-fill-over
-slice-aggregate-fill-over c = let h = c.before.before.before.before in sym (ap length (take_at (cleared h) _ (k h) (long h)) ∙ long h)
-
-fill-over-requires : tie.Need-fill-over-requires
-fill-over-requires c κs =
-    let s = c.before.before.before.before.before.before.before.before.before.before.before in
+slice-aggregate-fill-over : tie.Need-slice_bounds-fill_over-end-2
+slice-aggregate-fill-over c =
     let h = c.before.before.before.before in
-    let n = c.before.before.before.before.before.before.heads-of.ensures in
-    (s.requires.0, (s.requires.1.0, subst (λ (l : List ℕ). Drawers l × ((x : ℕ) → get_or l x 0 ≡ 0)) (sym (take_at (cleared h) _ (k h) (long h))) (record { some = omega (arith, long h, n); most = omega (arith, long h, n) }, h.clear-heads.ensures.1)))
+    sym (ap length (take_at (cleared h) _ (k h) (long h)) ∙ long h)
 
-same_length : tie.Need-same-length
+fill-over-requires : tie.Need-fill_over-requires
+fill-over-requires c κs =
+    let s = c.before.before.before.before in
+    let n = c.heads_of-k.ensures in
+    (c.requires.0, (c.requires.1.0, subst (λ (l : List ℕ). Drawers l × ((x : ℕ) → get_or l x 0 ≡ 0)) (sym (take_at (cleared s) _ (k s) (long s))) (record { some = omega (arith, long s, n); most = omega (arith, long s, n) }, c.clear_heads.ensures.1)))
+
+same_length : tie.Need-shape_of-classes
 same_length c = search rules
 
-same-length-2 : tie.Need-same-length-2
+same-length-2 : tie.Need-shape_of-room
 same-length-2 c = search rules
 
 returns : tie.Need-returns
 returns c = search rules
 
-pub fill-beside-spec : {M : Type 1} → statement M
-fill-beside-spec =
+pub fill_beside_spec : {M : Type 1} → statement M
+fill_beside_spec =
     tie.close
     (tie.spec
     heads-of-requires

@@ -16,87 +16,84 @@ use Rattle.classes.proofs.place_bare.Statement.{statement}
 use Rattle.classes.proofs.place_bare.Tie as tie
 
 -- what the children show
-again : (c : tie.After-known-told) (f : Forest) → Shown f c.before.before.before.before.before.before.before.before.before.args.row.now c.before.before.before.before.before.before.before.before.before.args.table.now → Again f c.before.before.before.before.before.before.before.before.before.args.p c.before.r.given.0.0
-again c f k = subst (Seeks f c.before.before.before.before.before.before.before.before.before.args.p) c.before.r.given.1 (c.before.before.before.seek.ensures f k)
+again : (c : tie.In-Told) (f : Forest) → Shown f c.args.row.now c.args.table.now → Again f c.args.p c.in-Told.r
+again c f k = subst (Seeks f c.args.p) c.in-Told.is (c.seek.ensures f k)
 
-sign : (c : tie.After-known-told2) (f : Forest) → Shown f c.before.before.before.before.before.before.before.before.before.args.row.now c.before.before.before.before.before.before.before.before.before.args.table.now → Seeks f c.before.before.before.before.before.before.before.before.before.args.p (Sign c.before.sign.given.0.0)
-sign c f k = subst (Seeks f c.before.before.before.before.before.before.before.before.before.args.p) c.before.sign.given.1 (c.before.before.before.seek.ensures f k)
+sign : (c : tie.In-Sign) (f : Forest) → Shown f c.args.row.now c.args.table.now → Seeks f c.args.p (Sign c.in-Sign.sign)
+sign c f k = subst (Seeks f c.args.p) c.in-Sign.is (c.seek.ensures f k)
 
 seek-requires : tie.Need-seek-requires
 seek-requires c κs =
-    let s = c.before.before.before.before.before in
-    (s.requires.0, (s.requires.1.0.0, λ f k. ((s.requires.1.1 f k).lasting.kept, bare_below k s.requires.1.0.0 (s.requires.1.1 f k) s.requires.1.0.2)))
+    (c.requires.0, (c.requires.1.0.0, λ f k. ((c.requires.1.1 f k).lasting.kept, bare_below k c.requires.1.0.0 (c.requires.1.1 f k) c.requires.1.0.2)))
 
-enum-known-r : tie.Need-enum-known-r
+enum-known-r : tie.Need-enum_known-r
 enum-known-r c = search rules
 
-cast-list : tie.Need-overflow-cast-list
+cast-list : tie.Need-overflow_cast-list
 cast-list c =
-    let z = c.before.before.before.before.before.before.before.before.before.requires.0 in
+    let z = c.requires.0 in
     omega (arith, (again c z.forest z.shown).before, z.shown.many, z.shown.most)
 
-mul-list : tie.Need-overflow-mul-list
+mul-list : tie.Need-offset_bounds-list-p
 mul-list c = search rules
 
-slice-write-list : tie.Need-slice-write-list
+slice-write-list : tie.Need-bounds-list-p
 slice-write-list c = search rules
 
-enum-known-sign : tie.Need-enum-known-sign
+enum-known-sign : tie.Need-enum_known-sign
 enum-known-sign c = search rules
 
-sub-shelf-of : tie.Need-overflow-sub-shelf-of
+sub-shelf-of : tie.Need-overflow_sub-heads
 sub-shelf-of c = search rules
 
-shelf-of-requires : tie.Need-shelf-of-requires
+shelf-of-requires : tie.Need-shelf_of-h-requires
 shelf-of-requires c κs =
-    let s = c.before.before.before.before.before.before.before.before.before in
-    let z = s.requires.0 in
-    let r = s.requires.1.0.3 in
-    (omega (arith, r.some), omega (arith, r.most), omega (arith, (sign c z.forest z.shown).0, sign_small z.forest (lasts_of z.forest) s.args.p))
+    let z = c.requires.0 in
+    let r = c.requires.1.0.3 in
+    (omega (arith, r.some), omega (arith, r.most), omega (arith, (sign c z.forest z.shown).0, sign_small z.forest (lasts_of z.forest) c.args.p))
 
-add-h : tie.Need-overflow-add-h
-add-h c = omega (arith, c.shelf-of.ensures, c.before.before.before.before.before.before.before.before.before.before.requires.1.0.3.most)
+add-h : tie.Need-overflow_add-h
+add-h c = omega (arith, c.shelf_of-h.ensures, c.requires.1.0.3.most)
 
-place-in-requires : tie.Need-place-in-requires
+place-in-requires : tie.Need-place_in-requires
 place-in-requires c κs =
-    let s = c.before.before.before.before.before.before.before.before.before.before.before.before in
-    let a = s.args in
+    let s = c.before.before.before in
+    let a = c.args in
     let m : ℕ = length a.heads.now - 512 in
-    let e = c.before.before.shelf-of.ensures in (
-      s.requires.0,
+    let e = c.shelf_of-h.ensures in (
+      c.requires.0,
       (
-        (s.requires.1.0.0, omega (arith, e.1, s.requires.1.0.3.some), s.requires.1.0.3),
+        (c.requires.1.0.0, omega (arith, e.1, c.requires.1.0.3.some), c.requires.1.0.3),
         λ f k.
             subst (λ (n : ℕ). Open f a.list.now a.heads.now m a.p a.newest (512 + n)) (sym e.0)
-            (bare_open k s.requires.1.0.0 (s.requires.1.1 f k) s.requires.1.0.2 s.requires.1.0.1 c.before.before.before.before.sign.given.0.0
-            (sign c.before.before.before f k).0 (sign c.before.before.before f k).1),
+            (bare_open k c.requires.1.0.0 (c.requires.1.1 f k) c.requires.1.0.2 c.requires.1.0.1 c.in-Sign.sign
+            (sign s f k).0 (sign s f k).1),
       ),
     )
 
-same_length : tie.Need-same-length
+same_length : tie.Need-shape_of-list-in-Told
 same_length c = search rules
 
-returns : tie.Need-returns
+returns : tie.Need-returns-in-Told
 returns c =
-    let s = c.before.before.before.before.before.before.before.before.before in
-    let a = s.args in (
+    let a = c.args in (
       λ f k.
-          placed_again (s.requires.1.1 f k) (omega (arith, s.requires.1.0.0, k.many)) (omega (arith, k.many, k.most)) (omega (arith, k.many, s.requires.0.room))
-          c.before.r.given.0.0 (again c f k),
-      drop-set-lt (length a.row.now) a.list.now a.p c.before.r.given.0.0 s.requires.1.0.0,
+          placed_again (c.requires.1.1 f k) (omega (arith, c.requires.1.0.0, k.many)) (omega (arith, k.many, k.most)) (omega (arith, k.many, c.requires.0.room))
+          c.in-Told.r (again c f k),
+      drop-set-lt (length a.row.now) a.list.now a.p c.in-Told.r c.requires.1.0.0,
     )
 
-same-length-2 : tie.Need-same-length-2
+same-length-2 : tie.Need-shape_of-list-in-Sign
 same-length-2 c = search rules
 
-same-length-3 : tie.Need-same-length-3
+same-length-3 : tie.Need-shape_of-heads
 same-length-3 c = search rules
 
-returns-2 : tie.Need-returns-2
-returns-2 c = c.before.before.before.before.IsPlace-in.ensures
+returns-2 : tie.Need-returns-in-Sign
+returns-2 c = c.place_in.ensures
 
-pub place-bare-spec : {M : Type 1} → statement M
-place-bare-spec =
+pub place_bare_spec : {M : Type 1} → statement M
+place_bare_spec =
     tie.close
     (tie.spec
     seek-requires

@@ -14,97 +14,93 @@ use Rattle.classes.proofs.place_in.Statement.{statement}
 use Rattle.classes.proofs.place_in.Tie as tie
 
 -- the place that was found
-found : (c : tie.After-known-told) (f : Forest) → Shown f c.before.before.before.before.before.before.before.before.before.before.args.row.now c.before.before.before.before.before.before.before.before.before.before.args.table.now → Again f c.before.before.before.before.before.before.before.before.before.before.args.p c.before.r.given.0.0
+found : (c : tie.In-At) (f : Forest) → Shown f c.args.row.now c.args.table.now → Again f c.args.p c.in-At.r
 found c f k =
-    let a = c.before.before.before.before.before.before.before.before.before.before.args in
-    subst (Finds f a.list.now a.p (get_or a.heads.now a.h 0)) c.before.r.given.1 (c.before.before.before.find-last.ensures f k)
+    let a = c.args in
+    subst (Finds f a.list.now a.p (get_or a.heads.now a.h 0)) c.in-At.is (c.find_last.ensures f k)
 
-find-last-requires : tie.Need-find-last-requires
+find-last-requires : tie.Need-find_last-requires
 find-last-requires c κs =
-    let s = c.before.before.before.before.before.before in
-    (s.requires.0, ((s.requires.1.0.0, s.requires.1.0.1, s.requires.1.0.2.most), λ f k. (s.requires.1.1 f k).placed.lasting))
+    (c.requires.0, ((c.requires.1.0.0, c.requires.1.0.1, c.requires.1.0.2.most), λ f k. (c.requires.1.1 f k).placed.lasting))
 
-enum-known-r : tie.Need-enum-known-r
+enum-known-r : tie.Need-enum_known-r
 enum-known-r c = search rules
 
-cast-list : tie.Need-overflow-cast-list
+cast-list : tie.Need-overflow_cast-list
 cast-list c =
-    let z = c.before.before.before.before.before.before.before.before.before.before.requires.0 in
+    let z = c.requires.0 in
     omega (arith, (found c z.forest z.shown).before, z.shown.many, z.shown.most)
 
-mul-list : tie.Need-overflow-mul-list
+mul-list : tie.Need-offset_bounds-list-p
 mul-list c = search rules
 
-slice-write-list : tie.Need-slice-write-list
+slice-write-list : tie.Need-bounds-list-p
 slice-write-list c = search rules
 
-enum_told : tie.Need-enum-told
+enum_told : tie.Need-enum_told-1
 enum_told c = search rules
 
-mul-list-2 : tie.Need-overflow-mul-list-2
+mul-list-2 : tie.Need-offset_bounds-heads-h
 mul-list-2 c = search rules
 
-slice-read-list : tie.Need-slice-read-list
+slice-read-list : tie.Need-bounds-heads-h
 slice-read-list c = search rules
 
-add-list : tie.Need-overflow-add-list
+add-list : tie.Need-overflow_add-list
 add-list c =
-    let s = c.before.before.before.before.before.before.before.before.before.before in
-    let z = s.requires.0 in
+    let z = c.requires.0 in
     let small : size z.forest ≤ 16384 = omega (arith, z.shown.many, z.shown.most) in
-    omega (arith, head_small small ((s.requires.1.1 z.forest z.shown).placed.lasting.opens s.args.h))
+    omega (arith, head_small small ((c.requires.1.1 z.forest z.shown).placed.lasting.opens c.args.h))
 
-mul-list-3 : tie.Need-overflow-mul-list-3
+mul-list-3 : tie.Need-offset_bounds-list-p-in-Nothing
 mul-list-3 c = search rules
 
-slice-write-list-2 : tie.Need-slice-write-list-2
+slice-write-list-2 : tie.Need-bounds-list-p-in-Nothing
 slice-write-list-2 c = search rules
 
-cast-heads : tie.Need-overflow-cast-heads
+cast-heads : tie.Need-overflow_cast-heads
 cast-heads c = search rules
 
-mul-heads : tie.Need-overflow-mul-heads
+mul-heads : tie.Need-offset_bounds-heads-h-in-Nothing
 mul-heads c = search rules
 
-slice-write-heads : tie.Need-slice-write-heads
+slice-write-heads : tie.Need-bounds-heads-h-in-Nothing
 slice-write-heads c = search rules
 
-same_length : tie.Need-same-length
+same_length : tie.Need-shape_of-list-in-At
 same_length c = search rules
 
-same-length-2 : tie.Need-same-length-2
+same-length-2 : tie.Need-shape_of-heads-in-At
 same-length-2 c = search rules
 
-returns : tie.Need-returns
+returns : tie.Need-returns-in-At
 returns c =
-    let s = c.before.before.before.before.before.before.before.before.before.before in
-    let a = s.args in (
+    let a = c.args in (
       λ f k.
-          open_again (s.requires.1.1 f k) (omega (arith, s.requires.1.0.0, k.many)) (omega (arith, k.many, k.most)) (omega (arith, k.many, s.requires.0.room))
-          c.before.r.given.0.0 (found c f k),
-      drop-set-lt (length a.row.now) a.list.now a.p c.before.r.given.0.0 s.requires.1.0.0,
+          open_again (c.requires.1.1 f k) (omega (arith, c.requires.1.0.0, k.many)) (omega (arith, k.many, k.most)) (omega (arith, k.many, c.requires.0.room))
+          c.in-At.r (found c f k),
+      drop-set-lt (length a.row.now) a.list.now a.p c.in-At.r c.requires.1.0.0,
     )
 
-same-length-3 : tie.Need-same-length-3
+same-length-3 : tie.Need-shape_of-list-in-Nothing
 same-length-3 c = search rules
 
-same-length-4 : tie.Need-same-length-4
+same-length-4 : tie.Need-shape_of-heads-in-Nothing
 same-length-4 c = search rules
 
-returns-2 : tie.Need-returns-2
+returns-2 : tie.Need-returns-in-Nothing
 returns-2 c =
-    let s = c.before.before.before.before.before.before.before.before.before.before in
-    let a = s.args in
-    let r = s.requires.1.0.2 in (
+    let a = c.args in
+    let r = c.requires.1.0.2 in (
       λ f k.
-          open_new (s.requires.1.1 f k) (omega (arith, s.requires.1.0.0, k.many)) (omega (arith, k.many, k.most)) (omega (arith, k.many, s.requires.0.room))
-          (subst (Finds f a.list.now a.p (get_or a.heads.now a.h 0)) c.before.enum_told.given.1 (c.before.before.before.find-last.ensures f k))
+          open_new (c.requires.1.1 f k) (omega (arith, c.requires.1.0.0, k.many)) (omega (arith, k.many, k.most)) (omega (arith, k.many, c.requires.0.room))
+          (subst (Finds f a.list.now a.p (get_or a.heads.now a.h 0)) c.in-Nothing.is (c.find_last.ensures f k))
           (omega (arith, r.some)) (omega (arith, r.some)),
-      drop-set-lt (length a.row.now) a.list.now a.p (32768 + get_or a.heads.now a.h 0) s.requires.1.0.0,
+      drop-set-lt (length a.row.now) a.list.now a.p (32768 + get_or a.heads.now a.h 0) c.requires.1.0.0,
     )
 
-pub place-in-spec : {M : Type 1} → statement M
-place-in-spec =
+pub place_in_spec : {M : Type 1} → statement M
+place_in_spec =
     tie.close
     (tie.spec
     find-last-requires
