@@ -5,6 +5,7 @@ ghost use Rattle.std.specs.Prelude.{◌≤◌, length};
 use crate::calling::refusal;
 use script::{count, list, list_at, number, number_at, text};
 use sparrowhem::{Entry, Filed, Refusal, Taken};
+use std::io;
 
 // What a byte holds that no call has written: the low byte of what a place of numbers holds.
 const UNSET: u8 = 190;
@@ -32,76 +33,88 @@ fn narrow(numbers: &[u16], room: &mut [u8]) -> usize
 }
 
 // file ARITIES | NUMBERS | LENGTHS | ROWS | PLACES: there is room for more numbers and lengths than a catalogue may have.
-pub fn file(case: &[u16]) {
+pub fn file(rt: &impl Print, case: &[u16]) -> io::Result<()> {
     let mut numbers = [0u32; 300];
     let n = widen(list_at(case, 1), &mut numbers);
     let mut lengths = [0u32; 300];
     let m = widen(list_at(case, 2), &mut lengths);
-    file_of(case, &numbers[..n], &lengths[..m]);
+    file_of(rt, case, &numbers[..n], &lengths[..m])
 }
 
-fn file_of(case: &[u16], numbers: &[u32], lengths: &[u32]) {
+fn file_of(rt: &impl Print, case: &[u16], numbers: &[u32], lengths: &[u32]) -> io::Result<()> {
     let mut file = [UNSET; 65536];
     let n = rows::shorter(number_at(case, 4), 65536);
-    file_in(case, numbers, lengths, &mut file[..n]);
+    file_in(rt, case, numbers, lengths, &mut file[..n])
 }
 
-fn file_in(case: &[u16], numbers: &[u32], lengths: &[u32], file: &mut [u8]) {
-    filed(sparrowhem::write_catalogue(list_at(case, 0), numbers, lengths, list_at(case, 3), file));
-    bytes_or_end(file);
+fn file_in(
+    rt: &impl Print,
+    case: &[u16],
+    numbers: &[u32],
+    lengths: &[u32],
+    file: &mut [u8],
+) -> io::Result<()> {
+    filed(
+        rt,
+        sparrowhem::write_catalogue(list_at(case, 0), numbers, lengths, list_at(case, 3), file),
+    )?;
+    bytes_or_end(rt, file)
 }
 
-fn filed(answer: Filed) {
+fn filed(rt: &impl Print, answer: Filed) -> io::Result<()> {
     match answer {
-        Filed::Refused(r) => refused(r),
-        Filed::Bytes(n) => count(b"bytes", n),
+        Filed::Refused(r) => refused(rt, r),
+        Filed::Bytes(n) => count(rt, b"bytes", n),
     }
 }
 
 // `refused`, number and place, and the programme's number where it is not 0.
-fn refused(r: Refusal) {
+fn refused(rt: &impl Print, r: Refusal) -> io::Result<()> {
     let programme = sparrowhem::programme_of(r) as usize;
     if programme == 0 {
-        refusal(r);
+        refusal(rt, r)
     } else {
-        text(b"refused");
-        number(sparrowhem::number_of(r));
-        number(sparrowhem::place_of(r));
-        count(b", programme", programme);
+        text(rt, b"refused")?;
+        number(rt, sparrowhem::number_of(r))?;
+        number(rt, sparrowhem::place_of(r))?;
+        count(rt, b", programme", programme)
     }
 }
 
 // A file's bytes; of a hundred or more, the last nine.
-fn bytes_or_end(xs: &[u8]) {
+fn bytes_or_end(rt: &impl Print, xs: &[u8]) -> io::Result<()> {
     let n = xs.len();
     if n < 100 {
-        bytes(xs);
+        bytes(rt, xs)
     } else {
-        bytes(&xs[n - 9..]);
+        bytes(rt, &xs[n - 9..])
     }
 }
 
-fn bytes(xs: &[u8]) {
+fn bytes(rt: &impl Print, xs: &[u8]) -> io::Result<()> {
     for i in 0..xs.len() {
-        number(xs[i] as usize);
+        number(rt, xs[i] as usize)?;
     }
-    text(b"\n");
+    text(rt, b"\n")
 }
 
 // symbols BYTES | PLACES
-pub fn symbols(case: &[u16], arities: &mut [u16]) {
-    let mut file = io::large_buffer();
+pub fn symbols(rt: &impl Print, case: &[u16], arities: &mut [u16]) -> io::Result<()> {
+    let mut file = [0u8; 65536];
     let n = narrow(list_at(case, 0), &mut file);
-    taken(sparrowhem::catalogue_alphabet(&file[..n], arities));
-    list(arities);
+    taken(rt, sparrowhem::catalogue_alphabet(&file[..n], arities))?;
+    list(rt, arities)
 }
 
 // entry BYTES | START LENGTH | PLACES
-pub fn entry(case: &[u16], row: &mut [u16]) {
-    let mut file = io::large_buffer();
+pub fn entry(rt: &impl Print, case: &[u16], row: &mut [u16]) -> io::Result<()> {
+    let mut file = [0u8; 65536];
     let n = narrow(list_at(case, 0), &mut file);
-    taken(sparrowhem::catalogue_row(&file[..n], told(list_at(case, 1)), row));
-    list(row);
+    taken(
+        rt,
+        sparrowhem::catalogue_row(&file[..n], told(list_at(case, 1)), row),
+    )?;
+    list(rt, row)
 }
 
 // The entry whose start and length a list has. A row is reached without its programme's number.
@@ -118,9 +131,9 @@ fn at(numbers: &[u16], i: usize) -> u16 {
     if i < numbers.len() { numbers[i] } else { 0 }
 }
 
-fn taken(answer: Taken) {
+fn taken(rt: &impl Print, answer: Taken) -> io::Result<()> {
     match answer {
-        Taken::Refused(r) => refusal(r),
-        Taken::Numbers(n) => count(b"numbers", n),
+        Taken::Refused(r) => refusal(rt, r),
+        Taken::Numbers(n) => count(rt, b"numbers", n),
     }
 }

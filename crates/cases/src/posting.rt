@@ -2,29 +2,36 @@
 use crate::calling::refusal;
 use script::{count, list, list_at};
 use sparrowhem::{BarsRead, BarsWritten};
+use std::io;
 
 // post ARITIES | BARS | PLACES
-pub fn post(case: &[u16], row: &mut [u16]) {
-    read(sparrowhem::read_bars(list_at(case, 0), list_at(case, 1), row));
-    list(row);
+pub fn post(rt: &impl Print, case: &[u16], row: &mut [u16]) -> io::Result<()> {
+    read(
+        rt,
+        sparrowhem::read_bars(list_at(case, 0), list_at(case, 1), row),
+    )?;
+    list(rt, row)
 }
 
-fn read(answer: BarsRead) {
+fn read(rt: &impl Print, answer: BarsRead) -> io::Result<()> {
     match answer {
-        BarsRead::Refused(r) => refusal(r),
-        BarsRead::Symbols(n) => count(b"symbols", n),
+        BarsRead::Refused(r) => refusal(rt, r),
+        BarsRead::Symbols(n) => count(rt, b"symbols", n),
     }
 }
 
 // close ARITIES | ROW | PLACES
-pub fn close(case: &[u16], bars: &mut [u16]) {
-    written(sparrowhem::write_bars(list_at(case, 0), list_at(case, 1), bars));
-    list(bars);
+pub fn close(rt: &impl Print, case: &[u16], bars: &mut [u16]) -> io::Result<()> {
+    written(
+        rt,
+        sparrowhem::write_bars(list_at(case, 0), list_at(case, 1), bars),
+    )?;
+    list(rt, bars)
 }
 
-fn written(answer: BarsWritten) {
+fn written(rt: &impl Print, answer: BarsWritten) -> io::Result<()> {
     match answer {
-        BarsWritten::Refused(r) => refusal(r),
-        BarsWritten::Numbers(n) => count(b"numbers", n),
+        BarsWritten::Refused(r) => refusal(rt, r),
+        BarsWritten::Numbers(n) => count(rt, b"numbers", n),
     }
 }

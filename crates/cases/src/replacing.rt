@@ -6,48 +6,72 @@ ghost use Rattle.std.specs.Prelude.{◌≤◌};
 use crate::calling::{found, refusal};
 use script::{copy, digits, list, list_at, number, number_at, room, text};
 use sparrowhem::Replaced;
+use std::io;
 
-pub fn replace(case: &[u16]) {
+pub fn replace(rt: &impl Print, case: &[u16]) -> io::Result<()> {
     let mut row = room();
     let r = copy(list_at(case, 1), &mut row, 0);
     let mut table = room();
     let t = copy(list_at(case, 2), &mut table, 0);
     let mut classes = room();
     let c = copy(list_at(case, 3), &mut classes, 0);
-    replace_in(case, &mut row[..r], &mut table[..t], &mut classes[..c]);
+    replace_in(rt, case, &mut row[..r], &mut table[..t], &mut classes[..c])
 }
 
-fn replace_in(case: &[u16], row: &mut [u16], table: &mut [u16], classes: &mut [u16]) {
-    edit(case, 4, row, table, classes);
-    edit(case, 8, row, table, classes);
-    edit(case, 12, row, table, classes);
-    list(row);
-    list(table);
-    list(classes);
+fn replace_in(
+    rt: &impl Print,
+    case: &[u16],
+    row: &mut [u16],
+    table: &mut [u16],
+    classes: &mut [u16],
+) -> io::Result<()> {
+    edit(rt, case, 4, row, table, classes)?;
+    edit(rt, case, 8, row, table, classes)?;
+    edit(rt, case, 12, row, table, classes)?;
+    list(rt, row)?;
+    list(rt, table)?;
+    list(rt, classes)
 }
 
 // The edit whose length is list number `first`, if the case has it.
-fn edit(case: &[u16], first: usize, row: &mut [u16], table: &mut [u16], classes: &mut [u16])
+fn edit(
+    rt: &impl Print,
+    case: &[u16],
+    first: usize,
+    row: &mut [u16],
+    table: &mut [u16],
+    classes: &mut [u16],
+) -> io::Result<()>
     requires { first ≤ 99 }
 {
     if 0 < list_at(case, first).len() {
-        put(case, first, row, table, classes);
+        put(rt, case, first, row, table, classes)?;
         seek(
+            rt,
             list_at(case, 0),
             row,
             table,
             classes,
             list_at(case, first + 3),
-        );
+        )?;
     }
+    Ok(())
 }
 
 // The call itself. The lists from number `first` on are its row length, replacement and position.
-fn put(case: &[u16], first: usize, row: &mut [u16], table: &mut [u16], classes: &mut [u16])
+fn put(
+    rt: &impl Print,
+    case: &[u16],
+    first: usize,
+    row: &mut [u16],
+    table: &mut [u16],
+    classes: &mut [u16],
+) -> io::Result<()>
     requires { first ≤ 99 }
 {
     let length = number_at(case, first);
     replaced(
+        rt,
         sparrowhem::replace(
             list_at(case, 0),
             row,
@@ -58,49 +82,60 @@ fn put(case: &[u16], first: usize, row: &mut [u16], table: &mut [u16], classes: 
             number_at(case, first + 2),
         ),
         length,
-    );
+    )
 }
 
 // A search of the row's whole buffer, with an output of ten places.
-fn seek(arities: &[u16], row: &[u16], table: &[u16], classes: &[u16], pattern: &[u16]) {
+fn seek(
+    rt: &impl Print,
+    arities: &[u16],
+    row: &[u16],
+    table: &[u16],
+    classes: &[u16],
+    pattern: &[u16],
+) -> io::Result<()> {
     if 0 < pattern.len() {
         let mut out = [script::UNSET; 10];
-        found(sparrowhem::find(arities, row, table, classes, pattern, &mut out));
-        list(&out);
+        found(
+            rt,
+            sparrowhem::find(arities, row, table, classes, pattern, &mut out),
+        )?;
+        list(rt, &out)?;
     }
+    Ok(())
 }
 
-fn replaced(answer: Replaced, old: usize) {
+fn replaced(rt: &impl Print, answer: Replaced, old: usize) -> io::Result<()> {
     match answer {
-        Replaced::Refused(r) => refusal(r),
+        Replaced::Refused(r) => refusal(rt, r),
         Replaced::Done(new, by) => {
-            text(b"length");
-            number(new);
-            changed(by, new, old);
+            text(rt, b"length")?;
+            number(rt, new)?;
+            changed(rt, by, new, old)
         }
     }
 }
 
 // The change in length: by how many numbers the row gains or loses.
-fn changed(by: i32, new: usize, old: usize) {
+fn changed(rt: &impl Print, by: i32, new: usize, old: usize) -> io::Result<()> {
     if new < old {
-        change(b", change -", by, 0, old - new);
+        change(rt, b", change -", by, 0, old - new)
     } else {
-        change(b", change ", by, new - old, 0);
+        change(rt, b", change ", by, new - old, 0)
     }
 }
 
 // It is printed if the call answers just this one. No row gains or loses more than 16,384 numbers.
-fn change(words: &[u8], by: i32, gain: usize, loss: usize) {
+fn change(rt: &impl Print, words: &[u8], by: i32, gain: usize, loss: usize) -> io::Result<()> {
     if 16384 < gain {
-        return;
+        return Ok(());
     }
     if 16384 < loss {
-        return;
+        return Ok(());
     }
     if by == edits::change(gain, loss) {
-        text(words);
-        digits(gain + loss);
+        text(rt, words)?;
+        digits(rt, gain + loss)?;
     }
-    text(b"\n");
+    text(rt, b"\n")
 }

@@ -7,9 +7,9 @@
 
 ghost use Rattle.std.specs.Prelude.{◌≡◌, ◌≤◌, length};
 
-use libc::STDIN_FILENO;
 use script::{count, list_at, number, text, title};
 use sparrowhem::{Check, Fits, Found, Refusal, SheetFound};
+use std::io;
 
 // How many patterns there are.
 const PATTERNS: usize = 14;
@@ -316,30 +316,31 @@ fn all_lists(case: &[u16]) -> Tally {
     sum
 }
 
-fn compare(case: &[u16]) {
+fn compare(rt: &impl Print, case: &[u16]) -> io::Result<()> {
     let all = all_lists(case);
-    text(b"positions");
-    number(all.positions);
-    text(b" matches");
-    number(all.matches);
-    text(b" refused");
-    number(all.refused);
-    text(b" classes");
-    number(all.classes);
-    count(b" apart", all.apart);
+    text(rt, b"positions")?;
+    number(rt, all.positions)?;
+    text(rt, b" matches")?;
+    number(rt, all.matches)?;
+    text(rt, b" refused")?;
+    number(rt, all.refused)?;
+    text(rt, b" classes")?;
+    number(rt, all.classes)?;
+    count(rt, b" apart", all.apart)
 }
 
-fn read(line: &[u8]) {
+fn read(rt: &impl Print, line: &[u8]) -> io::Result<()> {
     let mut numbers = script::room();
     let n = script::read(line, &mut numbers);
-    compare(&numbers[..n]);
+    compare(rt, &numbers[..n])
 }
 
-fn main() {
+fn main(rt: HostRuntime) -> io::Result<()> {
     title(
+        &rt,
         b"plain against find and a sheet, classes against equal subtrees: lists of one to four numbers, rows of five to seven, 14 patterns",
-    );
-    let mut line = io::buffer();
-    let n = io::read_full(STDIN_FILENO, &mut line);
-    read(&line[..n]);
+    )?;
+    let mut line = [0u8; 4096];
+    let n = script::read_full(&mut rt.stdin(), &mut line);
+    read(&rt, &line[..n])
 }
