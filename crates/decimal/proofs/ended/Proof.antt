@@ -5,17 +5,23 @@ use borrow.Author.Rules.{rules}
 use Rattle.decimal.proofs.ended.Statement.{statement}
 use Rattle.decimal.proofs.ended.Tie as tie
 
-byte-at-requires : tie.Need-byte-at-requires
+byte-at-requires : tie.Need-byte_at-d-requires
 byte-at-requires c κs = search rules
 
-returns : tie.Need-returns
-returns c = simp (← c.before.byte_at.ensures, eq-eqb _ _ c.if1.true)
+returns : tie.Need-returns-then-d-eq32
+returns c = simp (← c.byte_at-d.ensures, eq-eqb _ _ c.if-d-eq32.true)
 
-returns-2 : tie.Need-returns-2
-returns-2 c = simp (← c.before.before.byte_at.ensures, ne_eqb _ _ c.before.if1.false, eq-eqb _ _ c.if2.true)
+returns-2 : tie.Need-returns-then-d-eq10
+returns-2 c = simp (← c.byte_at-d.ensures, ne_eqb _ _ c.if-d-eq32.false, eq-eqb _ _ c.if-d-eq10.true)
 
-returns-3 : tie.Need-returns-3
-returns-3 c = simp (← c.before.before.byte_at.ensures, ne_eqb _ _ c.before.if1.false, ne_eqb _ _ c.if2.false)
+returns-3 : tie.Need-returns
+returns-3 c = simp (← c.byte_at-d.ensures, ne_eqb _ _ c.if-d-eq32.false, ne_eqb _ _ c.if-d-eq10.false)
 
-pub ended-spec : {M : Type 1} → statement M
-ended-spec = tie.close (tie.spec byte-at-requires returns returns-2 returns-3)
+pub ended_spec : {M : Type 1} → statement M
+ended_spec =
+    tie.close
+    (tie.spec
+    byte-at-requires
+    returns
+    returns-2
+    returns-3)

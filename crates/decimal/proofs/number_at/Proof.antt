@@ -13,53 +13,53 @@ use Rattle.decimal.proofs.number_at.Statement.{statement}
 use Rattle.decimal.proofs.number_at.Tie as tie
 
 -- a digit stands at the cursor
-digit : (c : tie.Then1) → is_digit (get_or c.before.before.before.args.text.now c.before.before.before.args.from.at 0) ≡ true
-digit c = sym c.before.digit_at.ensures ∙ c.if1.true
+digit : (c : tie.Then-digit_at) → is_digit (get_or c.args.text.now c.args.from.at 0) ≡ true
+digit c = sym c.digit_at.ensures ∙ c.if-digit_at.true
 
-here : (c : tie.Then1)
-    → (c.before.before.before.args.from.at < length c.before.before.before.args.text.now) × (48 ≤ get_or c.before.before.before.args.text.now c.before.before.before.args.from.at 0) × (get_or c.before.before.before.args.text.now c.before.before.before.args.from.at 0 ≤ 57)
-here c = digit_here c.before.before.before.args.text.now c.before.before.before.args.from.at (digit c)
+here : (c : tie.Then-digit_at)
+    → (c.args.from.at < length c.args.text.now) × (48 ≤ get_or c.args.text.now c.args.from.at 0) × (get_or c.args.text.now c.args.from.at 0 ≤ 57)
+here c = digit_here c.args.text.now c.args.from.at (digit c)
 
-digit-at-requires : tie.Need-digit-at-requires
+digit-at-requires : tie.Need-digit_at-requires
 digit-at-requires c κs = search rules
 
-shared-slice-read-first : tie.Need-shared-slice-read-first
+shared-slice-read-first : tie.Need-bounds-text-at
 shared-slice-read-first c = (here c.before).0
 
-add-t10 : tie.Need-overflow-add-t10
+add-t10 : tie.Need-overflow_add-next
 add-t10 c = omega (arith, here c.before)
 
 ended-requires : tie.Need-ended-requires
 ended-requires c κs = search rules
 
-returns : tie.Need-returns
+returns : tie.Need-returns-then-first-eq48
 returns c =
-    let a = c.before.before.before.before.before.before.args in
+    let a = c.args in
     let e = digit_first a.text.now a.from.at (digit c.before.before.before) in
-    let z = c.before.if2.true in
+    let z = c.if-first-eq48.true in
     ended_is a.text.now a.from.at (a.from.at + 1) a.from.line 0 c.ended.result (search rules) (rw z at e) (inl refl) c.ended.ensures
 
-sub-digits : tie.Need-overflow-sub-digits
+sub-digits : tie.Need-overflow_sub-first
 sub-digits c = (here c.before.before).1
 
-cast-digits : tie.Need-overflow-cast-digits
+cast-digits : tie.Need-overflow_cast-first
 cast-digits c = omega (arith, here c.before.before)
 
 digits-requires : tie.Need-digits-requires
 digits-requires c κs = omega (arith, here c.before.before)
 
-returns-2 : tie.Need-returns-2
+returns-2 : tie.Need-returns-then-digit_at
 returns-2 c =
-    let a = c.before.before.before.before.before.before.args in
+    let a = c.args in
     c.digits.ensures a.from.at (digit_first a.text.now a.from.at (digit c.before.before.before))
 
-returns-3 : tie.Need-returns-3
+returns-3 : tie.Need-returns
 returns-3 c =
-    let a = c.before.before.before.args in
-    ((λ n end s. none_here a.text.now a.from.at n end (sym c.before.digit_at.ensures ∙ c.if1.false) s), refl)
+    let a = c.args in
+    ((λ n end s. none_here a.text.now a.from.at n end (sym c.digit_at.ensures ∙ c.if-digit_at.false) s), refl)
 
-pub number-at-spec : {M : Type 1} → statement M
-number-at-spec =
+pub number_at_spec : {M : Type 1} → statement M
+number_at_spec =
     tie.close
     (tie.spec
     digit-at-requires

@@ -7,25 +7,28 @@ use borrow.Author.Rules.{rules}
 use Rattle.decimal.proofs.put_marked.Statement.{statement}
 use Rattle.decimal.proofs.put_marked.Tie as tie
 
-put-byte-requires : tie.Need-put-byte-requires
+put-byte-requires : tie.Need-put_byte-number-requires
 put-byte-requires c κs = search rules
 
-put-number-requires : tie.Need-put-number-requires
+put-number-requires : tie.Need-put_number-requires
 put-number-requires c κs =
-    let start = c.before.before.before.before.before.before in
-    omega (arith, c.before.before.before.put_byte.ensures.next, c.before.before.before.put_byte.auto.0, numeral_word start.args.n start.ranges.n.fits)
+    omega (arith, c.put_byte-number.ensures.next, c.put_byte-number.auto.out, numeral_word c.args.n c.ranges.n.fits)
 
-same_length : tie.Need-same-length
+same_length : tie.Need-shape_of-out
 same_length c = search rules
 
 returns : tie.Need-returns
 returns c =
-    let at-put-byte = c.before.before.before.before.before.before in
-    let start = c.before.before.before.before.before.before.before.before.before in
-    let a = c.before.before.before.before.before.before.before.before.before.args in (
-      printed_more (omega (arith, at-put-byte.put_byte.ensures.next)) at-put-byte.put_byte.ensures c.before.before.put-number.ensures,
-      omega (arith, at-put-byte.put_byte.ensures.next, c.before.before.put-number.ensures.next, numeral_word a.n start.ranges.n.fits),
+    let a = c.args in (
+      printed_more (omega (arith, c.put_byte-number.ensures.next)) c.put_byte-number.ensures c.put_number.ensures,
+      omega (arith, c.put_byte-number.ensures.next, c.put_number.ensures.next, numeral_word a.n c.ranges.n.fits),
     )
 
-pub put-marked-spec : {M : Type 1} → statement M
-put-marked-spec = tie.close (tie.spec put-byte-requires put-number-requires same_length returns)
+pub put_marked_spec : {M : Type 1} → statement M
+put_marked_spec =
+    tie.close
+    (tie.spec
+    put-byte-requires
+    put-number-requires
+    same_length
+    returns)

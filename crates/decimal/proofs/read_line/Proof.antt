@@ -11,110 +11,104 @@ use borrow.Author.Rules.{rules}
 use Rattle.decimal.proofs.read_line.Statement.{statement}
 use Rattle.decimal.proofs.read_line.Tie as tie
 
-abbrev invariant-loop : tie.invariant-loop
+abbrev invariant-loop : tie.invariant-loop-value
 invariant-loop text out₀ first line at₀ count₀ out at count = Sofar text out₀ at₀ first out at count
 
-abbrev decreases-loop : tie.decreases-loop
+abbrev decreases-loop : tie.decreases-loop-value
 decreases-loop text out₀ first line at₀ count₀ out at count = length text - at
 
 -- the number that was read
-stood : (c : tie.After-known-told invariant-loop decreases-loop)
-    → Stands c.before.before.before.before.before.before.before.before.before.args.text.now c.before.before.before.before.loop.at c.before.value.given.0.0 c.before.value.given.0.1.0.at
-stood c = (rw c.before.value.given.1 at c.before.before.before.number_at.ensures).0
+stood : (c : tie.In-Value invariant-loop decreases-loop)
+    → Stands c.args.text.now c.loop-value.at c.in-Value.value c.in-Value.next.at
+stood c = (rw c.in-Value.is at c.number_at.ensures).0
 
-within : (c : tie.After-known-told invariant-loop decreases-loop)
-    → (c.before.before.before.before.loop.at < c.before.value.given.0.1.0.at) × (c.before.value.given.0.1.0.at < length c.before.before.before.before.before.before.before.before.before.args.text.now)
+within : (c : tie.In-Value invariant-loop decreases-loop)
+    → (c.loop-value.at < c.in-Value.next.at) × (c.in-Value.next.at < length c.args.text.now)
 within c =
-    let start = c.before.before.before.before.before.before.before.before.before in
-    stands_within start.args.text.now c.before.before.before.before.loop.at _ _ (stood c)
+    stands_within c.args.text.now c.loop-value.at _ _ (stood c)
 
 -- the first byte of an empty line is the newline
-newline : (c : tie.Then1 invariant-loop decreases-loop) → get_or c.before.before.before.before.args.text.now c.before.before.before.before.args.from.at 0 ≡ 10
-newline c = sym c.before.byte_at.ensures ∙ c.if1.true
+newline : (c : tie.Then-byte_at-eq10 invariant-loop decreases-loop) → get_or c.args.text.now c.args.from.at 0 ≡ 10
+newline c = sym c.byte_at.ensures ∙ c.if-byte_at-eq10.true
 
-byte-at-requires : tie.Need-byte-at-requires invariant-loop decreases-loop
+byte-at-requires : tie.Need-byte_at-requires invariant-loop decreases-loop
 byte-at-requires c κs = search rules
 
-add-t13 : tie.Need-overflow-add-t13 invariant-loop decreases-loop
-add-t13 c = omega (arith, inside ends_number refl c.before.before.before.before.args.text.now c.before.before.before.before.args.from.at (rw (newline c)))
+add-t13 : tie.Need-overflow_add-result invariant-loop decreases-loop
+add-t13 c = omega (arith, inside ends_number refl c.args.text.now c.args.from.at (rw (newline c)))
 
-add-t14 : tie.Need-overflow-add-t14 invariant-loop decreases-loop
-add-t14 c = omega (arith, c.before.before.before.before.requires, inside ends_number refl c.before.before.before.before.args.text.now c.before.before.before.before.args.from.at (rw (newline c)))
+add-t14 : tie.Need-overflow_add-result-then-byte_at-eq10 invariant-loop decreases-loop
+add-t14 c = omega (arith, c.requires, inside ends_number refl c.args.text.now c.args.from.at (rw (newline c)))
 
-returns : tie.Need-returns invariant-loop decreases-loop
-returns c = let a = c.before.before.before.before.args in empty_line a.text.now a.from a.out.now a.first (newline c)
+returns : tie.Need-returns-then-byte_at-eq10 invariant-loop decreases-loop
+returns c = let a = c.args in empty_line a.text.now a.from a.out.now a.first (newline c)
 
-loop-holds : tie.Need-loop-init invariant-loop decreases-loop
-loop-holds c = let a = c.before.before.before.before.args in sofar_none a.text.now a.from a.out.now a.first c.before.before.before.before.requires
+loop-holds : tie.Need-loop-value-init invariant-loop decreases-loop
+loop-holds c = let a = c.args in sofar_none a.text.now a.from a.out.now a.first c.requires
 
-number-at-requires : tie.Need-number-at-requires invariant-loop decreases-loop
+number-at-requires : tie.Need-number_at-requires invariant-loop decreases-loop
 number-at-requires c κs = search rules
 
-enum-known-value : tie.Need-enum-known-value invariant-loop decreases-loop
+enum-known-value : tie.Need-enum_known-value invariant-loop decreases-loop
 enum-known-value c = search rules
 
-enum_told : tie.Need-enum-told invariant-loop decreases-loop
+enum_told : tie.Need-enum_told-1 invariant-loop decreases-loop
 enum_told c = search rules
 
-same_length : tie.Need-same-length invariant-loop decreases-loop
+same_length : tie.Need-shape_of-out-in_default invariant-loop decreases-loop
 same_length c = search rules
 
-returns-2 : tie.Need-returns-2 invariant-loop decreases-loop
+returns-2 : tie.Need-returns-in_default invariant-loop decreases-loop
 returns-2 c =
-    let a = c.before.before.before.before.before.before.before.before.args in
-    let l = c.before.before.before.loop in
-    let none = (rw c.enum_told.given.1 at c.before.before.number_at.ensures).0 in (
-      (λ ns end h. none_lines a.text.now a.from.at l.at l.invariant.numbers ns end l.invariant.text (λ e. c.before.before.before.before.if1.false (c.before.before.before.before.before.byte_at.ensures ∙ e)) none h),
+    let a = c.args in
+    let l = c.loop-value in
+    let none = (rw c.in_default.is at c.number_at.ensures).0 in (
+      (λ ns end h. none_lines a.text.now a.from.at l.at l.invariant.numbers ns end l.invariant.text (λ e. c.if-byte_at-eq10.false (c.byte_at.ensures ∙ e)) none h),
       refl,
     )
 
-mul-out : tie.Need-overflow-mul-out invariant-loop decreases-loop
-mul-out c = omega (arith, within c, c.before.before.before.before.loop.invariant.taken)
+mul-out : tie.Need-offset_bounds-out-count invariant-loop decreases-loop
+mul-out c = omega (arith, within c, c.loop-value.invariant.taken)
 
-slice-write-out : tie.Need-slice-write-out invariant-loop decreases-loop
+slice-write-out : tie.Need-bounds-out-count invariant-loop decreases-loop
 slice-write-out c =
-    let s = c.before.before.before.before.loop.invariant in
+    let s = c.loop-value.invariant in
     omega (arith, within c, s.taken, s.room, s.size)
 
-add-count : tie.Need-overflow-add-count invariant-loop decreases-loop
-add-count c = omega (arith, within c, c.before.before.before.before.loop.invariant.taken)
+add-count : tie.Need-overflow_add-count invariant-loop decreases-loop
+add-count c = omega (arith, within c, c.loop-value.invariant.taken)
 
-add_at : tie.Need-overflow-add-at invariant-loop decreases-loop
+add_at : tie.Need-overflow_add-at invariant-loop decreases-loop
 add_at c = omega (arith, within c)
 
-byte-at-requires-2 : tie.Need-byte-at-requires-2 invariant-loop decreases-loop
+byte-at-requires-2 : tie.Need-byte_at-requires-in-loop-value invariant-loop decreases-loop
 byte-at-requires-2 c κs = search rules
 
-add-t22 : tie.Need-overflow-add-t22 invariant-loop decreases-loop
+add-t22 : tie.Need-overflow_add-result-then-byte_at-eq10-2 invariant-loop decreases-loop
 add-t22 c =
-    let at-loop = c.before.before.before.before.before.before in
-    let start = c.before.before.before.before.before.before.before.before.before.before.before in
-    omega (arith, within c.before.before, at-loop.loop.invariant.behind, start.requires.lines)
+    omega (arith, within c.before.before, c.loop-value.invariant.behind, c.requires.lines)
 
-same-length-2 : tie.Need-same-length-2 invariant-loop decreases-loop
+same-length-2 : tie.Need-shape_of-out-then-byte_at-eq10-2 invariant-loop decreases-loop
 same-length-2 c =
-    let at-loop = c.before.before.before.before.before.before in
-    simp length-set at-loop.loop.invariant.size
+    simp length-set c.loop-value.invariant.size
 
-returns-3 : tie.Need-returns-3 invariant-loop decreases-loop
+returns-3 : tie.Need-returns-then-byte_at-eq10-2 invariant-loop decreases-loop
 returns-3 c =
-    let at-loop = c.before.before.before.before.before.before in
-    let a = c.before.before.before.before.before.before.before.before.before.before.before.args in
-    let l = at-loop.loop in
-    line_read a.text.now a.out.now a.from a.first l.out l.at l.count l.invariant _ _ (stood c.before.before) (sym c.before.byte-at2.ensures ∙ c.if2.true)
+    let a = c.args in
+    let l = c.loop-value in
+    line_read a.text.now a.out.now a.from a.first l.out l.at l.count l.invariant _ _ (stood c.before.before) (sym c.byte_at-in-loop-value.ensures ∙ c.if-byte_at-eq10-2.true)
 
-loop-less : tie.Need-loop-smaller invariant-loop decreases-loop
+loop-less : tie.Need-loop-value-smaller invariant-loop decreases-loop
 loop-less c = omega (arith, within c.before.before)
 
-loop-again : tie.Need-loop-preserved invariant-loop decreases-loop
+loop-again : tie.Need-loop-value-preserved invariant-loop decreases-loop
 loop-again c =
-    let at-loop = c.before.before.before.before.before.before in
-    let a = c.before.before.before.before.before.before.before.before.before.before.before.args in
-    let l = at-loop.loop in
-    sofar_more a.text.now a.out.now a.from a.first l.out l.at l.count l.invariant _ _ (stood c.before.before) (λ e. c.if2.false (c.before.byte-at2.ensures ∙ e))
+    let a = c.args in
+    let l = c.loop-value in
+    sofar_more a.text.now a.out.now a.from a.first l.out l.at l.count l.invariant _ _ (stood c.before.before) (λ e. c.if-byte_at-eq10-2.false (c.byte_at-in-loop-value.ensures ∙ e))
 
-pub read-line-spec : {M : Type 1} → statement M
-read-line-spec =
+pub read_line_spec : {M : Type 1} → statement M
+read_line_spec =
     tie.close
     (tie.spec
     invariant-loop
