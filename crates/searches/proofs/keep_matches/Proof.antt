@@ -20,11 +20,11 @@ use borrow.Author.Rules.{rules}
 use Rattle.searches.proofs.keep_matches.Statement.{statement}
 use Rattle.searches.proofs.keep_matches.Tie as tie
 
-abbrev invariant-loop : tie.invariant-loop
+abbrev invariant-loop : tie.invariant-loop-k
 invariant-loop row table classes pattern compared places many out before count i₀ p marks₀ most alike j₀ k₀ i marks j k =
     (i ≡ i₀) × Walking (programme row table classes) pattern p marks j k
 
-abbrev decreases-loop : tie.decreases-loop
+abbrev decreases-loop : tie.decreases-loop-k
 decreases-loop row table classes pattern compared places many out before count i₀ p marks₀ most alike j₀ k₀ i marks j k = length pattern - k
 
 abbrev invariant-places : tie.invariant-places
@@ -52,188 +52,184 @@ test s = comes_through s.args.row.now s.args.table.now (sought s)
 abbrev Outer : Type 0
 Outer = tie.At-places invariant-loop decreases-loop invariant-places decreases-places
 
-abbrev start : Outer → Start
-start u = u.before.before.before.before.before.before
-
 -- the position of a place
 abbrev position : Outer → ℕ
-position u = get_or (start u).args.places.now u.places.i 0
+position u = get_or u.args.places.now u.places.i 0
 
 -- at the test of the inner one
 abbrev Inner : Type 0
-Inner = tie.At-loop invariant-loop decreases-loop invariant-places decreases-places
-
-abbrev outer : Inner → Outer
-outer l = l.before.before.before.before.before
+Inner = tie.At-loop-k invariant-loop decreases-loop invariant-places decreases-places
 
 -- in the inner loop
 abbrev Inside : Type 0
-Inside = tie.In-loop invariant-loop decreases-loop invariant-places decreases-places
+Inside = tie.In-loop-k invariant-loop decreases-loop invariant-places decreases-places
 
 -- the pattern has a number at k
-numbered : (c : Inside) → (let l = c.before in l.loop.k < length (sought (start (outer l))))
-numbered c = let l = c.before in omega (arith, c.loop-test.true, (start (outer l)).requires.0.compared.within)
+numbered : (c : Inside) → (c.loop-k.k < length (sought c.before.before.before.before.before.before.before.before.before.before.before.before.before))
+numbered c = omega (arith, c.loop-k-test.true, c.requires.0.compared.within)
 
 -- and a position of the row faces it
-inside : (c : Inside) → (let l = c.before in l.loop.j < length (start (outer l)).args.row.now)
+inside : (c : Inside) → (c.loop-k.j < length c.args.row.now)
 inside c =
-    let l = c.before in let s = start (outer l) in let i = l.loop in
-    walking_inside (lent s) (sought s) _ s.pre.0.searchable i.marks i.j i.k i.invariant.1 (numbered c)
+    let l = c.before.before.before.before.before.before.before.before.before.before.before.before.before in
+    let i = c.loop-k in
+    walking_inside (lent l) (sought l) _ c.requires.0.searchable i.marks i.j i.k i.invariant.1 (numbered c)
 
 -- the place is in the row
-bounded : (u : Outer) → u.places.i < (start u).args.many → (position u < length (start u).args.row.now) × (length (start u).args.row.now ≤ row_most)
+bounded : (u : Outer) → u.places.i < u.args.many → (position u < length u.args.row.now) × (length u.args.row.now ≤ row_most)
 bounded u h =
-    let s = start u in
-    (s.pre.0.within u.places.i h, (checked_ends s.pre.0.searchable.0 (lent s) (sought s) s.pre.0.searchable.1).most)
+    let s = u.before.before.before.before.before.before in
+    (u.requires.0.within u.places.i h, (checked_ends u.requires.0.searchable.0 (lent s) (sought s) u.requires.0.searchable.1).most)
 
 places-holds : tie.Need-places-init invariant-loop decreases-loop invariant-places decreases-places
 places-holds c =
-    let s = c.before.before.before.before.before in
-    (omega arith, omega arith, refl, kept_none (test s) s.args.out.now s.args.before)
+    (omega arith, omega arith, refl, kept_none (test c.before.before.before.before.before) c.args.out.now c.args.before)
 
-mul-p : tie.Need-overflow-mul-p invariant-loop decreases-loop invariant-places decreases-places
+mul-p : tie.Need-offset_bounds-places-i invariant-loop decreases-loop invariant-places decreases-places
 mul-p c = search rules
 
-element-copy-out-p : tie.Need-element-copy-out-p invariant-loop decreases-loop invariant-places decreases-places
+element-copy-out-p : tie.Need-bounds-places-i invariant-loop decreases-loop invariant-places decreases-places
 element-copy-out-p c = search rules
 
-cast-p : tie.Need-overflow-cast-p invariant-loop decreases-loop invariant-places decreases-places
-cast-p c = let u = c.before.before in record { fits = omega (arith, bounded u c.before.places-test.true) }
+cast-p : tie.Need-overflow_cast-p invariant-loop decreases-loop invariant-places decreases-places
+cast-p c = omega (arith, bounded c.before.before.before c.places-test.true)
 
-sub-shorter : tie.Need-overflow-sub-shorter invariant-loop decreases-loop invariant-places decreases-places
-sub-shorter c = let u = c.before.before in omega (arith, bounded u c.before.places-test.true)
+sub-shorter : tie.Need-overflow_sub-row invariant-loop decreases-loop invariant-places decreases-places
+sub-shorter c = omega (arith, bounded c.before.before.before c.places-test.true)
 
-shorter-requires : tie.Need-shorter-requires invariant-loop decreases-loop invariant-places decreases-places
+shorter-requires : tie.Need-shorter-most-requires invariant-loop decreases-loop invariant-places decreases-places
 shorter-requires c κs = search rules
 
-count-eights-requires : tie.Need-count-eights-requires invariant-loop decreases-loop invariant-places decreases-places
+count-eights-requires : tie.Need-count_eights-alike-requires invariant-loop decreases-loop invariant-places decreases-places
 count-eights-requires c κs =
-    let u = c.before.before.before in let s = start u in
-    let both = c.shorter.ensures in
-    (omega (arith, both, s.pre.0.compared.within), omega (arith, both, bounded u c.before.before.places-test.true))
+    let both = c.shorter-most.ensures in
+    (omega (arith, both, c.requires.0.compared.within), omega (arith, both, bounded c.before.before.before.before c.places-test.true))
 
-add-j : tie.Need-overflow-add-j invariant-loop decreases-loop invariant-places decreases-places
+add-j : tie.Need-overflow_add-j invariant-loop decreases-loop invariant-places decreases-places
 add-j c =
-    let u = c.before.before.before.before in
-    record { fits = omega (arith, c.count-eights.ensures.0, c.before.shorter.ensures, bounded u c.before.before.before.places-test.true) }
+    omega (arith, c.count_eights-alike.ensures.0, c.shorter-most.ensures, bounded c.before.before.before.before.before c.places-test.true)
 
-loop-holds : tie.Need-loop-init invariant-loop decreases-loop invariant-places decreases-places
+loop-holds : tie.Need-loop-k-init invariant-loop decreases-loop invariant-places decreases-places
 loop-holds c =
-    let u = c.before.before.before.before in let s = start u in
-    let alike = c.count-eights.ensures in
-    (refl, walking_alike (lent s) (sought s) (position u) s.pre.0.searchable (bounded u c.before.before.before.places-test.true).0 c.count-eights.result (omega (arith, alike.0, c.before.shorter.ensures, s.pre.0.compared.within)) alike.1)
+    let s = c.before.before.before.before.before in
+    let u = c.before.before.before.before.before.before.before.before.before.before.before in
+    let alike = c.count_eights-alike.ensures in
+    (refl, walking_alike (lent u) (sought u) (position s) c.requires.0.searchable (bounded s c.places-test.true).0 c.count_eights-alike.result (omega (arith, alike.0, c.shorter-most.ensures, c.requires.0.compared.within)) alike.1)
 
-mul-s : tie.Need-overflow-mul-s invariant-loop decreases-loop invariant-places decreases-places
+mul-s : tie.Need-offset_bounds-pattern-k invariant-loop decreases-loop invariant-places decreases-places
 mul-s c = search rules
 
-shared-slice-read-s : tie.Need-shared-slice-read-s invariant-loop decreases-loop invariant-places decreases-places
+shared-slice-read-s : tie.Need-bounds-pattern-k invariant-loop decreases-loop invariant-places decreases-places
 shared-slice-read-s c = numbered c.before
 
-mul-same : tie.Need-overflow-mul-same invariant-loop decreases-loop invariant-places decreases-places
+mul-same : tie.Need-offset_bounds-row-j invariant-loop decreases-loop invariant-places decreases-places
 mul-same c = search rules
 
-shared-slice-read-same : tie.Need-shared-slice-read-same invariant-loop decreases-loop invariant-places decreases-places
+shared-slice-read-same : tie.Need-bounds-row-j invariant-loop decreases-loop invariant-places decreases-places
 shared-slice-read-same c = inside c.before.before
 
 same-requires : tie.Need-same-requires invariant-loop decreases-loop invariant-places decreases-places
 same-requires c κs = search rules
 
-add-j-2 : tie.Need-overflow-add-j-2 invariant-loop decreases-loop invariant-places decreases-places
+add-j-2 : tie.Need-overflow_add-j-then-same invariant-loop decreases-loop invariant-places decreases-places
 add-j-2 c = search rules
 
-step-requires : tie.Need-step-requires invariant-loop decreases-loop invariant-places decreases-places
+step-requires : tie.Need-step-found-requires invariant-loop decreases-loop invariant-places decreases-places
 step-requires c κs =
-    let n = c.before.before.before.before.before in let l = n.before in let s = start (outer l) in
-    (checked_ends s.pre.0.searchable.0 (lent s) (sought s) s.pre.0.searchable.1, checked_classes s.pre.0.searchable.0 (lent s) (sought s) s.pre.0.searchable.1, l.loop.invariant.1.marks, inside n, sym c.before.before.same.ensures ∙ c.before.if1.false)
+    let n = c.before.before.before.before.before.before.before.before.before.before.before.before.before.before.before.before.before.before in
+    (checked_ends c.requires.0.searchable.0 (lent n) (sought n) c.requires.0.searchable.1, checked_classes c.requires.0.searchable.0 (lent n) (sought n) c.requires.0.searchable.1, c.loop-k.invariant.1.marks, inside c.before.before.before.before.before, sym c.same.ensures ∙ c.if-same.false)
 
-enum-known-found : tie.Need-enum-known-found invariant-loop decreases-loop invariant-places decreases-places
+enum-known-found : tie.Need-enum_known-found invariant-loop decreases-loop invariant-places decreases-places
 enum-known-found c = search rules
 
-enum_told : tie.Need-enum-told invariant-loop decreases-loop invariant-places decreases-places
+enum_told : tie.Need-enum_told-1 invariant-loop decreases-loop invariant-places decreases-places
 enum_told c = search rules
 
-add-i : tie.Need-overflow-add-i invariant-loop decreases-loop invariant-places decreases-places
+add-i : tie.Need-overflow_step-i invariant-loop decreases-loop invariant-places decreases-places
 add-i c = search rules
 
-places-less : tie.Need-places-smaller invariant-loop decreases-loop invariant-places decreases-places
+places-less : tie.Need-places-smaller-in_default invariant-loop decreases-loop invariant-places decreases-places
 places-less c = search rules
 
-places-again : tie.Need-places-preserved invariant-loop decreases-loop invariant-places decreases-places
+places-again : tie.Need-places-preserved-in_default invariant-loop decreases-loop invariant-places decreases-places
 places-again c =
-    let t = c.before.before in let other = t.before.before in let n = other.before.before.before.before in let l = n.before in let u = outer l in let s = start u in let o = u.places in let i = l.loop in
-    let missed = walking_miss (lent s) (sought s) (position u) s.pre.0.searchable i.marks i.j i.k i.invariant.1 (numbered n) _ _ (t.step.ensures i.k) c.enum_told.given.1 in
-    let before = l.before.before.before.before.places-test.true in
-    let same = kept_same (test s) s.args.out.now s.args.places.now s.args.before o.i o.count o.out o.inv.3 (omega (arith, before, s.pre)) missed in (
+    let t = c.before.before.before.before.before.before.before.before.before.before.before.before.before.before.before.before.before.before.before.before in
+    let o = c.places in let i = c.loop-k in
+    let missed = walking_miss (lent t) (sought t) (position c.before.before.before.before.before.before.before.before.before.before.before.before.before.before) c.requires.0.searchable i.marks i.j i.k i.invariant.1 (numbered c.before.before.before.before.before.before.before) _ _ (c.step-found.ensures i.k) c.in_default.is in
+    let before = c.places-test.true in
+    let same = kept_same (test t) c.args.out.now c.args.places.now c.args.before o.i o.count o.out o.invariant.3 (omega (arith, before, c.requires)) missed in (
       omega (arith, before, i.invariant.0),
-      omega (arith, o.inv.1, i.invariant.0),
-      o.inv.2,
-      subst (λ (n : ℕ). Kept (test s) (take (n + 1) s.args.places.now) s.args.out.now s.args.before o.count o.out) (sym i.invariant.0) same,
+      omega (arith, o.invariant.1, i.invariant.0),
+      o.invariant.2,
+      subst (λ (n : ℕ). Kept (test t) (take (n + 1) c.args.places.now) c.args.out.now c.args.before o.count o.out) (sym i.invariant.0) same,
     )
 
-add-k : tie.Need-overflow-add-k invariant-loop decreases-loop invariant-places decreases-places
+add-k : tie.Need-overflow_step-k invariant-loop decreases-loop invariant-places decreases-places
 add-k c = search rules
 
-loop-less : tie.Need-loop-smaller invariant-loop decreases-loop invariant-places decreases-places
+loop-less : tie.Need-loop-k-smaller invariant-loop decreases-loop invariant-places decreases-places
 loop-less c = search rules
 
-loop-again : tie.Need-loop-preserved invariant-loop decreases-loop invariant-places decreases-places
+loop-again : tie.Need-loop-k-preserved invariant-loop decreases-loop invariant-places decreases-places
 loop-again c =
-    let l = c.before.before.before.before.before in let u = outer l in let s = start u in let i = l.loop in
-    let p = position u in
-    let here : List ℕ → ℕ → Type 0 = λ ms j. Walking (lent s) (sought s) p ms j (i.k + 1) in (
+    let u = c.before.before.before.before in
+    let l = c.before.before.before.before.before.before.before.before.before.before.before.before.before.before.before.before.before in
+    let i = c.loop-k in
+    let p = position c.before.before.before.before.before.before.before.before.before.before.before in
+    let here : List ℕ → ℕ → Type 0 = λ ms j. Walking (lent l) (sought l) p ms j (i.k + 1) in (
       i.invariant.0,
       ⊎_elim
-          (λ x. subst₂ here (sym x.1) (sym x.2) (walking_same (lent s) (sought s) p s.pre.0.searchable i.marks i.j i.k i.invariant.1 (numbered c.before.before.before.before) (sym c.before.same.ensures ∙ x.0.taken)))
-          (λ x. subst₂ here (sym x.6) (sym x.7) (walking_next (lent s) (sought s) p s.pre.0.searchable i.marks i.j i.k i.invariant.1 (numbered c.before.before.before.before) _ _ (x.2.ensures i.k) _ x.4.given.1))
-          c.if1.branch,
+          (λ x. subst₂ here (sym x.marks-is) (sym x.j-is) (walking_same (lent l) (sought l) p c.requires.0.searchable i.marks i.j i.k i.invariant.1 (numbered u) (sym c.same.ensures ∙ x.if-same.true)))
+          (λ x. subst₂ here (sym x.marks-is) (sym x.j-is) (walking_next (lent l) (sought l) p c.requires.0.searchable i.marks i.j i.k i.invariant.1 (numbered u) _ _ (x.step-found.ensures i.k) _ x.in-To.is))
+          c.if-same.branch-raw,
     )
 
-cast-out : tie.Need-overflow-cast-out invariant-loop decreases-loop invariant-places decreases-places
-cast-out c = let u = outer c.before in record { fits = omega (arith, bounded u c.before.before.before.before.before.places-test.true) }
+cast-out : tie.Need-overflow_cast-out invariant-loop decreases-loop invariant-places decreases-places
+cast-out c = omega (arith, bounded c.before.before.before.before.before.before.before c.places-test.true)
 
-mul-out : tie.Need-overflow-mul-out invariant-loop decreases-loop invariant-places decreases-places
+mul-out : tie.Need-offset_bounds-out-count invariant-loop decreases-loop invariant-places decreases-places
 mul-out c = search rules
 
-slice-write-out : tie.Need-slice-write-out invariant-loop decreases-loop invariant-places decreases-places
+slice-write-out : tie.Need-bounds-out-count invariant-loop decreases-loop invariant-places decreases-places
 slice-write-out c =
-    let u = outer c.before in
-    omega (arith, u.places.inv.1, u.places.inv.2, c.before.before.before.before.before.places-test.true, (start u).pre)
+    omega (arith, c.places.invariant.1, c.places.invariant.2, c.places-test.true, c.requires)
 
-add-count : tie.Need-overflow-add-count invariant-loop decreases-loop invariant-places decreases-places
+add-count : tie.Need-overflow_add-count invariant-loop decreases-loop invariant-places decreases-places
 add-count c =
-    let u = outer c.before in
-    record { fits = omega (arith, u.places.inv.1, c.before.before.before.before.before.places-test.true, (start u).pre) }
+    omega (arith, c.places.invariant.1, c.places-test.true, c.requires)
 
-add-i-2 : tie.Need-overflow-add-i-2 invariant-loop decreases-loop invariant-places decreases-places
+add-i-2 : tie.Need-overflow_step-i-in-places invariant-loop decreases-loop invariant-places decreases-places
 add-i-2 c = search rules
 
-places-less-2 : tie.Need-places-smaller-2 invariant-loop decreases-loop invariant-places decreases-places
+places-less-2 : tie.Need-places-smaller invariant-loop decreases-loop invariant-places decreases-places
 places-less-2 c = search rules
 
-places-again-2 : tie.Need-places-preserved-2 invariant-loop decreases-loop invariant-places decreases-places
+places-again-2 : tie.Need-places-preserved invariant-loop decreases-loop invariant-places decreases-places
 places-again-2 c =
-    let l = c.before in let u = outer l in let s = start u in let o = u.places in let i = l.loop in
-    let blank = s.pre.0.compared.blank in
-    let Through-here = walking_through (lent s) (sought s) (position u) s.pre.0.searchable (length (sought s)) i.marks i.j i.k i.invariant.1 (omega arith) (λ x y z. blank x (omega (arith, y, c.loop-test.false)) z) in
-    let before = l.before.before.before.before.places-test.true in
-    let more = kept_more (test s) s.args.out.now s.args.places.now s.args.before o.i o.count o.out o.inv.3 (omega (arith, before, s.pre)) (omega (arith, before, s.pre)) (ap through Through-here.1) in (
+    let u = c.before.before.before.before.before.before.before in
+    let l = c.before.before.before.before.before.before.before.before.before.before.before.before.before in
+    let o = c.places in let i = c.loop-k in
+    let blank = c.requires.0.compared.blank in
+    let Through-here = walking_through (lent l) (sought l) (position u) c.requires.0.searchable (length (sought l)) i.marks i.j i.k i.invariant.1 (omega arith) (λ x y z. blank x (omega (arith, y, c.loop-k-test.false)) z) in
+    let before = c.places-test.true in
+    let more = kept_more (test l) c.args.out.now c.args.places.now c.args.before o.i o.count o.out o.invariant.3 (omega (arith, before, c.requires)) (omega (arith, before, c.requires)) (ap through Through-here.1) in (
       omega (arith, before, i.invariant.0),
-      omega (arith, o.inv.1, i.invariant.0),
-      simp length-set o.inv.2,
-      subst (λ (n : ℕ). Kept (test s) (take (n + 1) s.args.places.now) s.args.out.now s.args.before (o.count + 1) (set o.out o.count (position u))) (sym i.invariant.0) more,
+      omega (arith, o.invariant.1, i.invariant.0),
+      simp length-set o.invariant.2,
+      subst (λ (n : ℕ). Kept (test l) (take (n + 1) c.args.places.now) c.args.out.now c.args.before (o.count + 1) (set o.out o.count (position u))) (sym i.invariant.0) more,
     )
 
-same_length : tie.Need-same-length invariant-loop decreases-loop invariant-places decreases-places
-same_length c = c.before.places.invariant.2
+same_length : tie.Need-shape_of-out invariant-loop decreases-loop invariant-places decreases-places
+same_length c = c.places.invariant.2
 
 returns : tie.Need-returns invariant-loop decreases-loop invariant-places decreases-places
 returns c =
-    let u = c.before in let s = start u in let o = u.places in
-    let all : o.i ≡ s.args.many = omega (arith, c.places-test.false, o.invariant.0) in
-    subst (λ (n : ℕ). Kept (test s) (take n s.args.places.now) s.args.out.now s.args.before o.count o.out) all o.invariant.3
+    let o = c.places in
+    let all : o.i ≡ c.args.many = omega (arith, c.places-test.false, o.invariant.0) in
+    subst (λ (n : ℕ). Kept (test c.before.before.before.before.before.before.before) (take n c.args.places.now) c.args.out.now c.args.before o.count o.out) all o.invariant.3
 
-pub keep-matches-spec : {M : Type 1} → statement M
-keep-matches-spec =
+pub keep_matches_spec : {M : Type 1} → statement M
+keep_matches_spec =
     tie.close
     (tie.spec
     invariant-loop

@@ -12,48 +12,47 @@ use Rattle.searches.proofs.list_by.Statement.{statement}
 use Rattle.searches.proofs.list_by.Tie as tie
 
 -- as many matches as were written have room
-within : (c : tie.After-write-matches) → c.write-matches.result ≤ length c.before.before.before.before.before.before.before.before.args.room.now
-within c = let s = c.before.before.before.before.before.before.before.before in (c.write-matches.ensures s.requires.0.0 s.requires.0.1).told.1
+within : (c : tie.After-write_matches-count) → c.write_matches-count.result ≤ length c.args.room.now
+within c = (c.write_matches-count.ensures c.requires.0.0 c.requires.0.1).told.1
 
-write-matches-requires : tie.Need-write-matches-requires
+write-matches-requires : tie.Need-write_matches-count-requires
 write-matches-requires c κs = search rules
 
-same_length : tie.Need-same-length
+same_length : tie.Need-shape_of-room-then-out-count
 same_length c = search rules
 
-returns : tie.Need-returns
+returns : tie.Need-returns-then-out-count
 returns c a k =
-    let n = c.before.before.before.write-matches.ensures a k in
-    record { positions = n.positions; listed = n.listed; told = (n.told.0, c.if1.true, refl) }
+    let n = c.write_matches-count.ensures a k in
+    record { positions = n.positions; listed = n.listed; told = (n.told.0, c.if-out-count.true, refl) }
 
-slice-reshare-prefix-copy-into : tie.Need-slice-reshare-prefix-copy-into
-slice-reshare-prefix-copy-into c = omega (arith, within c.before.before.before.before, c.before.before.before.before.write-matches.auto)
+slice-reshare-prefix-copy-into : tie.Need-slice_bounds-copy_into-end
+slice-reshare-prefix-copy-into c = omega (arith, within c.before.before.before.before, c.write_matches-count.auto)
 
-slice-aggregate-copy-into : tie.Need-slice-aggregate-copy-into
-slice-aggregate-copy-into c = sym (length-take-le _ _ (slice-reshare-prefix-copy-into c.before))
+slice-aggregate-copy-into : tie.Need-slice_bounds-copy_into-end-2
+slice-aggregate-copy-into c = sym (length-take-le _ _ (slice-reshare-prefix-copy-into c))
 
-copy-into-requires : tie.Need-copy-into-requires
-copy-into-requires c κs = omega (arith, slice-aggregate-copy-into c, c.before.before.if1.false)
+copy-into-requires : tie.Need-copy_into-requires
+copy-into-requires c κs = omega (arith, slice-aggregate-copy-into c, c.if-out-count.false)
 
-same-length-2 : tie.Need-same-length-2
+same-length-2 : tie.Need-shape_of-out
 same-length-2 c = search rules
 
-same-length-3 : tie.Need-same-length-3
+same-length-3 : tie.Need-shape_of-room
 same-length-3 c = search rules
 
-returns-2 : tie.Need-returns-2
+returns-2 : tie.Need-returns
 returns-2 c a k =
-    let w = c.before.before.before.before.before.before.before.before in
-    let n = w.write-matches.ensures a k in
-    let same = ap (take w.write-matches.result) n.told.2 ∙ front_taken c.before.before.before.before.before.before.before.before.before.before.before.before.before.before.before.before.args.room.now n.positions _ n.told.0 in
+    let n = c.write_matches-count.ensures a k in
+    let same = ap (take c.write_matches-count.result) n.told.2 ∙ front_taken c.args.room.now n.positions _ n.told.0 in
     record {
       positions = n.positions;
       listed = n.listed;
-      told = (n.told.0, c.before.before.before.before.before.if1.false, c.before.before.copy-into.ensures ∙ ap (written c.before.before.before.before.before.before.before.before.before.before.before.before.before.before.before.before.args.out.now 0) same);
+      told = (n.told.0, c.if-out-count.false, c.copy_into.ensures ∙ ap (written c.args.out.now 0) same);
     }
 
-pub list-by-spec : {M : Type 1} → statement M
-list-by-spec =
+pub list_by_spec : {M : Type 1} → statement M
+list_by_spec =
     tie.close
     (tie.spec
     write-matches-requires

@@ -54,75 +54,76 @@ also s one x l u e =
 
 -- the candidates
 abbrev Gathered : Type 0
-Gathered = tie.After-write-candidates
-
-abbrev start : Gathered → tie.Start
-start w = w.before.before.before.before.before.before.before.before
+Gathered = tie.After-write_candidates-many
 
 abbrev places : Gathered → List ℕ
-places w = w.write-candidates.last.1.1.1.1.1.1.0
+places w = w.write_candidates-many.new.places
 
 abbrev many : Gathered → ℕ
-many w = w.write-candidates.result
+many w = w.write_candidates-many.result
 
-few : (w : Gathered) → (many w ≤ 64) × (many w ≤ long (start w)) × (length (places w) ≡ 64)
-few w = let e = w.write-candidates.ensures in (omega (arith, e.0, (start w).requires.1.short), e.0, e.1)
+few : (w : Gathered) → (many w ≤ 64) × (many w ≤ long w.before.before.before.before.before.before.before.before) × (length (places w) ≡ 64)
+few w = let e = w.write_candidates-many.ensures in (omega (arith, e.0, w.requires.1.short), e.0, e.1)
 
 -- each of them lies in the row, and the root stands there
-each : (w : Gathered) (i : ℕ) → i < many w → (let s = start w in let p = get_or (places w) i 0 in
-    (p < length s.args.row.now) × (same_symbol (get_or s.args.row.now p 0) (get_or (sought s) 0 0) ≡ true))
+each : (w : Gathered) (i : ℕ) → i < many w → (let p = get_or (places w) i 0 in
+    (p < length w.args.row.now) × (same_symbol (get_or w.args.row.now p 0) (get_or (sought w.before.before.before.before.before.before.before.before) 0 0) ≡ true))
 each w i h =
-    let s = start w in let e = w.write-candidates.ensures in let p = get_or (places w) i 0 in
-    let front : take (many w) (places w) ≡ passing (may s) (range s.args.from (long s)) = e.2 in
+    let s = w.before.before.before.before.before.before.before.before in
+    let e = w.write_candidates-many.ensures in let p = get_or (places w) i 0 in
+    let front : take (many w) (places w) ≡ passing (may s) (range w.args.from (long s)) = e.2 in
     let size : length (take (many w) (places w)) ≡ many w = length-take-le (many w) (places w) (omega (arith, few w)) in
-    let inside : i < length (passing (may s) (range s.args.from (long s))) = omega (arith, ap length front, size, h) in
-    let same : get_or (passing (may s) (range s.args.from (long s))) i 0 ≡ p =
+    let inside : i < length (passing (may s) (range w.args.from (long s))) = omega (arith, ap length front, size, h) in
+    let same : get_or (passing (may s) (range w.args.from (long s))) i 0 ≡ p =
     ap (λ (l : List ℕ). get_or l i 0) (sym front) ∙ get_or-take (many w) (places w) i 0 h in
-    let told = passing_each (may s) s.args.from (long s) i inside in
-    let in_row = within s p (subst (λ (x : ℕ). x < s.args.from + long s) same told.1) in
-    (in_row, may_same (lent s) (sought s) s.pre.0.searchable p in_row s.args.outline.size (ap (may s) (sym same) ∙ told.2))
+    let told = passing_each (may s) w.args.from (long s) i inside in
+    let in_row = within s p (subst (λ (x : ℕ). x < w.args.from + long s) same told.1) in
+    (in_row, may_same (lent s) (sought s) w.requires.0.searchable p in_row w.args.outline.size (ap (may s) (sym same) ∙ told.2))
 
 -- over a variable twice, two subtrees stand there, and the walk says whether they are the same
-pair : (w : Gathered) → Twin (sought (start w)) → (i : ℕ) → i < many w → (let s = start w in let p = get_or (places w) i 0 in
-    (p + 1 < length s.args.row.now) × (get_or s.args.table.now (p + 1) 0 < length s.args.row.now) × (twins s.args.table.now s.args.classes.now p ≡ walks s p))
+pair : (w : Gathered) → Twin (sought w.before.before.before.before.before.before.before.before) → (i : ℕ) → i < many w → (let p = get_or (places w) i 0 in
+    (p + 1 < length w.args.row.now) × (get_or w.args.table.now (p + 1) 0 < length w.args.row.now) × (twins w.args.table.now w.args.classes.now p ≡ walks w.before.before.before.before.before.before.before.before p))
 pair w t i h =
-    let s = start w in let p = get_or (places w) i 0 in let e = each w i h in
-    (first_in (lent s) (sought s) s.pre.0.searchable t p e.0 e.1, second_in (lent s) (sought s) s.pre.0.searchable t p e.0 e.1, twins-walk (lent s) (sought s) s.pre.0.searchable t p e.0 e.1)
+    let s = w.before.before.before.before.before.before.before.before in
+    let p = get_or (places w) i 0 in let e = each w i h in
+    (first_in (lent s) (sought s) w.requires.0.searchable t p e.0 e.1, second_in (lent s) (sought s) w.requires.0.searchable t p e.0 e.1, twins-walk (lent s) (sought s) w.requires.0.searchable t p e.0 e.1)
 
-shared-slice-read-write-candidates : tie.Need-shared-slice-read-write-candidates
+shared-slice-read-write-candidates : tie.Need-bounds-pattern-0
 shared-slice-read-write-candidates c =
     let s = c.before.before.before.before.before.before in
-    (checked_pattern s.requires.0.searchable.0 (lent s) (sought s) s.requires.0.searchable.1).some
+    (checked_pattern c.requires.0.searchable.0 (lent s) (sought s) c.requires.0.searchable.1).some
 
-write-candidates-requires : tie.Need-write-candidates-requires
+write-candidates-requires : tie.Need-write_candidates-many-requires
 write-candidates-requires c κs =
     let s = c.before.before.before.before.before.before.before in
-    (checked_ends s.requires.0.searchable.0 (lent s) (sought s) s.requires.0.searchable.1, s.requires.1, refl)
+    (checked_ends c.requires.0.searchable.0 (lent s) (sought s) c.requires.0.searchable.1, c.requires.1, refl)
 
-keep-all-requires : tie.Need-keep-all-requires
+keep-all-requires : tie.Need-keep_all-requires
 keep-all-requires c κs =
     let w = c.before.before.before.before in
-    ((few w).0, (few w).2, omega (arith, few w, (start w).requires.2))
+    ((few w).0, (few w).2, omega (arith, few w, c.requires.2))
 
-same_length : tie.Need-same-length
+same_length : tie.Need-shape_of-out-then-outline-eq1
 same_length c = search rules
 
-returns : tie.Need-returns
+returns : tie.Need-returns-then-outline-eq1
 returns c =
-    let k = c.before.before in let w = c.before.before.before.before.before.before.before in let s = start w in
-    let all = candidates_all (walks s) s.args.out.now (may s) s.args.from (long s) (many w) (places w) w.write-candidates.ensures.2 (implied s) (also s c.before.before.before.before.before.if1.true) in
+    let w = c.before.before.before.before.before.before.before in
+    let k = c.before.before.before.before.before.before.before.before.before.before.before.before.before.before.before in
+    let all = candidates_all (walks k) c.args.out.now (may k) c.args.from (long k) (many w) (places w) c.write_candidates-many.ensures.2 (implied k) (also k c.if-outline-eq1.true) in
     let size : length (take (many w) (places w)) ≡ many w = length-take-le (many w) (places w) (omega (arith, few w)) in
-    record { end = k.keep_all.ensures.0 ∙ ap (◌+◌ s.args.before) (sym size ∙ ap length all); buffer = k.keep_all.ensures.1 ∙ ap (written s.args.out.now s.args.before) all }
+    record { end = c.keep_all.ensures.0 ∙ ap (◌+◌ c.args.before) (sym size ∙ ap length all); buffer = c.keep_all.ensures.1 ∙ ap (written c.args.out.now c.args.before) all }
 
-is-twin-requires : tie.Need-is-twin-requires
+is-twin-requires : tie.Need-is_twin-requires
 is-twin-requires c κs = search rules
 
-keep-twins-requires : tie.Need-keep-twins-requires
+keep-twins-requires : tie.Need-keep_twins-requires
 keep-twins-requires c κs =
-    let w = c.before.before.before.before.before.before in let s = start w in
-    let p = pair w (c.before.before.before.is-twin.ensures c.before.before.if2.true) in
-    let ends = checked_ends s.pre.0.searchable.0 (lent s) (sought s) s.pre.0.searchable.1 in
-    let room = (checked_classes s.pre.0.searchable.0 (lent s) (sought s) s.pre.0.searchable.1).long in (
+    let s = c.before.before.before.before.before.before.before.before.before.before.before.before.before.before in
+    let w = c.before.before.before.before.before.before in
+    let p = pair w (c.is_twin.ensures c.if-is_twin.true) in
+    let ends = checked_ends c.requires.0.searchable.0 (lent s) (sought s) c.requires.0.searchable.1 in
+    let room = (checked_classes c.requires.0.searchable.0 (lent s) (sought s) c.requires.0.searchable.1).long in (
       record {
         small = λ i h. omega (arith, (p i h).0, ends.most);
         first = λ i h. omega (arith, (p i h).0, ends.long);
@@ -131,37 +132,39 @@ keep-twins-requires c κs =
       },
       (few w).0,
       (few w).2,
-      omega (arith, few w, s.pre.2),
+      omega (arith, few w, c.requires.2),
     )
 
-same-length-2 : tie.Need-same-length-2
+same-length-2 : tie.Need-shape_of-out-then-is_twin
 same-length-2 c = search rules
 
-returns-2 : tie.Need-returns-2
+returns-2 : tie.Need-returns-then-is_twin
 returns-2 c =
-    let k = c.before.before in let t = k.before.before.before.before in let w = t.before.before.before in let s = start w in
-    let p = pair w (t.is-twin.ensures k.before.before.before.if2.true) in
-    let size : length (take (many w) (places w)) ≡ many w = length-take-le (many w) (places w) (omega (arith, few w)) in
-    let same : (i : ℕ) → i < length (take (many w) (places w)) → twins s.args.table.now s.args.classes.now (get_or (take (many w) (places w)) i 0) ≡ walks s (get_or (take (many w) (places w)) i 0) =
-    λ i h. subst (λ (x : ℕ). twins s.args.table.now s.args.classes.now x ≡ walks s x) (sym (get_or-take (many w) (places w) i 0 (omega (arith, h, size)))) (p i (omega (arith, h, size))).2 in
-    candidates_kept (walks s) s.args.out.now (may s) s.args.from (long s) (many w) (places w) w.write-candidates.ensures.2 (implied s) s.args.before _ _
-    (kept-alike (walks s) s.args.out.now (twins s.args.table.now s.args.classes.now) (take (many w) (places w)) s.args.before _ _ same k.keep-twins.ensures)
+    let t = c.before.before.before.before.before.before.before.before.before.before.before.before.before.before.before.before.before in
+    let k = c.before.before.before.before.before.before.before.before.before in
+    let p = pair k (c.is_twin.ensures c.if-is_twin.true) in
+    let size : length (take (many k) (places k)) ≡ many k = length-take-le (many k) (places k) (omega (arith, few k)) in
+    let same : (i : ℕ) → i < length (take (many k) (places k)) → twins c.args.table.now c.args.classes.now (get_or (take (many k) (places k)) i 0) ≡ walks t (get_or (take (many k) (places k)) i 0) =
+    λ i h. subst (λ (x : ℕ). twins c.args.table.now c.args.classes.now x ≡ walks t x) (sym (get_or-take (many k) (places k) i 0 (omega (arith, h, size)))) (p i (omega (arith, h, size))).2 in
+    candidates_kept (walks t) c.args.out.now (may t) c.args.from (long t) (many k) (places k) c.write_candidates-many.ensures.2 (implied t) c.args.before _ _
+    (kept-alike (walks t) c.args.out.now (twins c.args.table.now c.args.classes.now) (take (many k) (places k)) c.args.before _ _ same c.keep_twins.ensures)
 
-keep-matches-requires : tie.Need-keep-matches-requires
+keep-matches-requires : tie.Need-keep_matches-requires
 keep-matches-requires c κs =
-    let w = c.before.before.before.before.before.before in let s = start w in
-    (record { searchable = s.pre.0.searchable; compared = s.pre.0.outlined.compared; within = λ i h. (each w i h).0 }, (few w).0, (few w).2, omega (arith, few w, s.pre.2))
+    let w = c.before.before.before.before.before.before in
+    (record { searchable = c.requires.0.searchable; compared = c.requires.0.outlined.compared; within = λ i h. (each w i h).0 }, (few w).0, (few w).2, omega (arith, few w, c.requires.2))
 
-same-length-3 : tie.Need-same-length-3
+same-length-3 : tie.Need-shape_of-out
 same-length-3 c = search rules
 
-returns-3 : tie.Need-returns-3
+returns-3 : tie.Need-returns
 returns-3 c =
-    let k = c.before.before in let w = k.before.before.before.before.before.before.before in let s = start w in
-    candidates_kept (walks s) s.args.out.now (may s) s.args.from (long s) (many w) (places w) w.write-candidates.ensures.2 (implied s) s.args.before _ _ k.keep-matches.ensures
+    let w = c.before.before.before.before.before.before.before.before.before in
+    let k = c.before.before.before.before.before.before.before.before.before.before.before.before.before.before.before.before.before in
+    candidates_kept (walks k) c.args.out.now (may k) c.args.from (long k) (many w) (places w) c.write_candidates-many.ensures.2 (implied k) c.args.before _ _ c.keep_matches.ensures
 
-pub list-within-spec : {M : Type 1} → statement M
-list-within-spec =
+pub list_within_spec : {M : Type 1} → statement M
+list_within_spec =
     tie.close
     (tie.spec
     shared-slice-read-write-candidates

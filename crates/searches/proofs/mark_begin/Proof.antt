@@ -7,14 +7,19 @@ use borrow.Author.Rules.{rules}
 use Rattle.searches.proofs.mark_begin.Statement.{statement}
 use Rattle.searches.proofs.mark_begin.Tie as tie
 
-sub-result : tie.Need-overflow-sub-result
+sub-result : tie.Need-overflow_sub-result
 sub-result c = search rules
 
-returns : tie.Need-returns
-returns c = sym (ap mark_begin c.if1.true)
+returns : tie.Need-returns-then-m-eq0
+returns c = sym (ap mark_begin c.if-m-eq0.true)
 
-returns-2 : tie.Need-returns-2
-returns-2 c = begin_later c.before.args.m c.if1.false
+returns-2 : tie.Need-returns-else-m-eq0
+returns-2 c = begin_later c.args.m c.if-m-eq0.false
 
-pub mark-begin-spec : {M : Type 1} → statement M
-mark-begin-spec = tie.close (tie.spec sub-result returns returns-2)
+pub mark_begin_spec : {M : Type 1} → statement M
+mark_begin_spec =
+    tie.close
+    (tie.spec
+    sub-result
+    returns
+    returns-2)

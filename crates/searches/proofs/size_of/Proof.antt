@@ -11,44 +11,43 @@ use borrow.Author.Rules.{rules}
 use Rattle.searches.proofs.size_of.Statement.{statement}
 use Rattle.searches.proofs.size_of.Tie as tie
 
-abbrev invariant-loop : tie.invariant-loop
+abbrev invariant-loop : tie.invariant-loop-k
 invariant-loop pattern blanks₀ k₀ k-end blanks k = (k-end ≡ length pattern) × ((blanks ≡ 1 → ⊥) → PlainTo pattern k)
 
-abbrev decreases-loop : tie.decreases-loop
+abbrev decreases-loop : tie.decreases-loop-k
 decreases-loop pattern blanks₀ k₀ k-end blanks k = length pattern - k
 
-loop-holds : tie.Need-loop-init invariant-loop decreases-loop
+loop-holds : tie.Need-loop-k-init invariant-loop decreases-loop
 loop-holds c = (refl, λ n i h. absurd (omega arith))
 
-mul-if1 : tie.Need-overflow-mul-if1 invariant-loop decreases-loop
+mul-if1 : tie.Need-offset_bounds-pattern-k invariant-loop decreases-loop
 mul-if1 c = search rules
 
-shared-slice-read-if1 : tie.Need-shared-slice-read-if1 invariant-loop decreases-loop
+shared-slice-read-if1 : tie.Need-bounds-pattern-k invariant-loop decreases-loop
 shared-slice-read-if1 c = search rules
 
-add-k : tie.Need-overflow-add-k invariant-loop decreases-loop
+add-k : tie.Need-overflow_step-k invariant-loop decreases-loop
 add-k c = search rules
 
-loop-less : tie.Need-loop-smaller invariant-loop decreases-loop
+loop-less : tie.Need-loop-k-smaller invariant-loop decreases-loop
 loop-less c = search rules
 
-loop-again : tie.Need-loop-preserved invariant-loop decreases-loop
+loop-again : tie.Need-loop-k-preserved invariant-loop decreases-loop
 loop-again c =
-    let l = c.before.before.before in let g = l.before.args in (
+    let g = c.args in (
       refl,
-      λ n. ⊎_elim (λ t. absurd (n t.1)) (λ t. plain_more g.pattern.now l.loop.k (l.loop.invariant.1 (λ h. n (t.1 ∙ h))) (plain_symbol (get_or g.pattern.now l.loop.k 0) (omega (arith, t.0.left)))) c.if1.branch,
+      λ n. ⊎_elim (λ t. absurd (n t.blanks-is)) (λ t. plain_more g.pattern.now c.loop-k.k (c.loop-k.invariant.1 (λ h. n (t.blanks-is ∙ h))) (plain_symbol (get_or g.pattern.now c.loop-k.k 0) (omega (arith, t.if-pattern-k-ge-FIRST_VARIABLE.false)))) c.if-pattern-k-ge-FIRST_VARIABLE.branch-raw,
     )
 
-returns : tie.Need-returns invariant-loop decreases-loop
-returns c P = any_sized P c.before.before.before.args.pattern.now
+returns : tie.Need-returns-then-blanks-eq1 invariant-loop decreases-loop
+returns c P = any_sized P c.args.pattern.now
 
-returns-2 : tie.Need-returns-2 invariant-loop decreases-loop
+returns-2 : tie.Need-returns-else-blanks-eq1 invariant-loop decreases-loop
 returns-2 c P =
-    let l = c.before.before in
-    own_sized P l.before.args.pattern.now (λ i m. l.loop.invariant.1 c.if2.false i (omega (arith, m, c.before.loop-test.false, l.loop.invariant.0)))
+    own_sized P c.args.pattern.now (λ i m. c.loop-k.invariant.1 c.if-blanks-eq1.false i (omega (arith, m, c.loop-k-test.false, c.loop-k.invariant.0)))
 
-pub size-of-spec : {M : Type 1} → statement M
-size-of-spec =
+pub size_of_spec : {M : Type 1} → statement M
+size_of_spec =
     tie.close
     (tie.spec
     invariant-loop

@@ -12,41 +12,40 @@ use borrow.Author.Rules.{rules}
 use Rattle.searches.proofs.stands_in.Statement.{statement}
 use Rattle.searches.proofs.stands_in.Tie as tie
 
-abbrev invariant-loop : tie.invariant-loop
+abbrev invariant-loop : tie.invariant-loop-k
 invariant-loop part s hits₀ k₀ k-end hits k = (k-end ≡ length part) × ((hits ≡ 1 → ⊥) → Without part s 0 k)
 
-abbrev decreases-loop : tie.decreases-loop
+abbrev decreases-loop : tie.decreases-loop-k
 decreases-loop part s hits₀ k₀ k-end hits k = length part - k
 
-loop-holds : tie.Need-loop-init invariant-loop decreases-loop
+loop-holds : tie.Need-loop-k-init invariant-loop decreases-loop
 loop-holds c = (refl, λ n k l u. absurd (omega arith))
 
-mul-if1 : tie.Need-overflow-mul-if1 invariant-loop decreases-loop
+mul-if1 : tie.Need-offset_bounds-part-k invariant-loop decreases-loop
 mul-if1 c = search rules
 
-shared-slice-read-if1 : tie.Need-shared-slice-read-if1 invariant-loop decreases-loop
+shared-slice-read-if1 : tie.Need-bounds-part-k invariant-loop decreases-loop
 shared-slice-read-if1 c = search rules
 
-add-k : tie.Need-overflow-add-k invariant-loop decreases-loop
+add-k : tie.Need-overflow_step-k invariant-loop decreases-loop
 add-k c = search rules
 
-loop-less : tie.Need-loop-smaller invariant-loop decreases-loop
+loop-less : tie.Need-loop-k-smaller invariant-loop decreases-loop
 loop-less c = search rules
 
-loop-again : tie.Need-loop-preserved invariant-loop decreases-loop
+loop-again : tie.Need-loop-k-preserved invariant-loop decreases-loop
 loop-again c =
-    let l = c.before.before.before in let g = l.before.args in (
+    let g = c.args in (
       refl,
-      λ n k z u y. ⊎_elim (λ t. n t.1) (λ t. without_more g.part.now g.s l.loop.k (l.loop.invariant.1 (λ h. n (t.1 ∙ h))) t.0.left k z u y) c.if1.branch,
+      λ n k z u y. ⊎_elim (λ t. n t.hits-is) (λ t. without_more g.part.now g.s c.loop-k.k (c.loop-k.invariant.1 (λ h. n (t.hits-is ∙ h))) t.if-part-k.false k z u y) c.if-part-k.branch-raw,
     )
 
 returns : tie.Need-returns invariant-loop decreases-loop
 returns c e k z u y =
-    let l = c.before in
-    l.loop.invariant.1 (eqb-false _ _ e) k z (omega (arith, u, c.loop-test.false, l.loop.invariant.0)) y
+    c.loop-k.invariant.1 (eqb-false _ _ e) k z (omega (arith, u, c.loop-k-test.false, c.loop-k.invariant.0)) y
 
-pub stands-in-spec : {M : Type 1} → statement M
-stands-in-spec =
+pub stands_in_spec : {M : Type 1} → statement M
+stands_in_spec =
     tie.close
     (tie.spec
     invariant-loop

@@ -20,11 +20,11 @@ use borrow.Author.Rules.{rules}
 use Rattle.searches.proofs.write_matches.Statement.{statement}
 use Rattle.searches.proofs.write_matches.Tie as tie
 
-abbrev invariant-loop : tie.invariant-loop
+abbrev invariant-loop : tie.invariant-loop-p
 invariant-loop row table classes pattern out₀ outline count₀ p₀ out count p =
     (p ≤ length row) × (length out ≡ length out₀) × Kept (comes_through row table pattern) (range 0 p) out₀ 0 count out
 
-abbrev decreases-loop : tie.decreases-loop
+abbrev decreases-loop : tie.decreases-loop-p
 decreases-loop row table classes pattern out₀ outline count₀ p₀ out count p = length row - p
 
 -- what the function was given
@@ -42,120 +42,122 @@ walks s = comes_through s.args.row.now s.args.table.now (sought s)
 
 -- in the loop, where the root is a symbol
 abbrev Loop : Type 0
-Loop = tie.At-loop invariant-loop decreases-loop
+Loop = tie.At-loop-p invariant-loop decreases-loop
 
-abbrev start : Loop → Start
-start l = l.before.before.before.before.before.before.before.before.before
-
-plain : (l : Loop) → BareIs (sought (start l)) false
-plain l = subst (BareIs (sought (start l))) l.before.before.if1.left l.before.before.before.is-bare.ensures
+plain : (l : Loop) → BareIs (sought l.before.before.before.before.before.before.before.before.before) false
+plain l =
+    let s = l.before.before.before.before.before.before.before.before.before in
+    subst (BareIs (sought s)) l.if-is_bare.false l.is_bare.ensures
 
 -- there are not more matches than positions
-few : (l : Loop) → l.loop.count ≤ l.loop.p
+few : (l : Loop) → l.loop-p.count ≤ l.loop-p.p
 few l =
-    let s = start l in
-    omega (arith, l.loop.inv.2.end, passing-length (walks s) (range 0 l.loop.p), range_length 0 l.loop.p)
+    omega (arith, l.loop-p.invariant.2.end, passing-length (walks l.before.before.before.before.before.before.before.before.before) (range 0 l.loop-p.p), range_length 0 l.loop-p.p)
 
 -- the next stretch
 abbrev Ahead : Type 0
-Ahead = tie.After-shorter invariant-loop decreases-loop
-
-abbrev loop : Ahead → Loop
-loop t = t.before.before.before.before
+Ahead = tie.After-shorter-to invariant-loop decreases-loop
 
 abbrev from : Ahead → ℕ
-from t = t.before.pass-over.result
+from t = t.pass_over-from.result
 
 abbrev to : Ahead → ℕ
-to t = t.shorter.result
+to t = t.shorter-to.result
 
-stretched : (t : Ahead) → ((loop t).loop.p < to t) × Stretched (from t) (to t) (length (start (loop t)).args.row.now)
+stretched : (t : Ahead) → (t.loop-p.p < to t) × Stretched (from t) (to t) (length t.args.row.now)
 stretched t =
-    let over = t.before.pass-over.ensures in
-    (omega (arith, t.shorter.ensures, over.0, t.before.before.before.loop-test.taken), record { on = omega (arith, t.shorter.ensures, over.1); short = omega (arith, t.shorter.ensures); within = omega (arith, t.shorter.ensures) })
+    let over = t.pass_over-from.ensures in
+    (omega (arith, t.shorter-to.ensures, over.0, t.loop-p-test.true), record { on = omega (arith, t.shorter-to.ensures, over.1); short = omega (arith, t.shorter-to.ensures); within = omega (arith, t.shorter-to.ensures) })
 
-is-bare-requires : tie.Need-is-bare-requires invariant-loop decreases-loop
-is-bare-requires c κs = let s = c.before.before.before.before.before in (checked_pattern s.requires.0.0 (lent s) (sought s) s.requires.0.1).some
+is-bare-requires : tie.Need-is_bare-requires invariant-loop decreases-loop
+is-bare-requires c κs =
+    let s = c.before.before.before.before.before in
+    (checked_pattern c.requires.0.0 (lent s) (sought s) c.requires.0.1).some
 
-write-positions-requires : tie.Need-write-positions-requires invariant-loop decreases-loop
+write-positions-requires : tie.Need-write_positions-requires invariant-loop decreases-loop
 write-positions-requires c κs =
-    let b = c.before in let s = b.before.before.before.before.before.before.before in
-    (s.requires.1, s.requires.0.1.row.sized.most)
+    (c.requires.1, c.requires.0.1.row.sized.most)
 
-same_length : tie.Need-same-length invariant-loop decreases-loop
+same_length : tie.Need-shape_of-out-then-is_bare invariant-loop decreases-loop
 same_length c = search rules
 
-returns : tie.Need-returns invariant-loop decreases-loop
+returns : tie.Need-returns-then-is_bare invariant-loop decreases-loop
 returns c a k =
-    let b = c.before.before.before.before in let s = b.before.before.before.before.before.before.before in
-    let n = length s.args.row.now in
-    let bare = subst (BareIs (sought s)) b.if1.true b.before.is-bare.ensures in
+    let b = c.before.before.before.before.before.before.before.before.before.before.before in
+    let n = length c.args.row.now in
+    let bare = subst (BareIs (sought b)) c.if-is_bare.true c.is_bare.ensures in
     record {
       positions = positions_below n;
-      listed = listed_everywhere a (lent s) (sought s) k bare n;
-      told = (sym (positions_length n), s.requires.1, c.before.before.write-positions.ensures);
+      listed = listed_everywhere a (lent b) (sought b) k bare n;
+      told = (sym (positions_length n), c.requires.1, c.write_positions.ensures);
     }
 
-outline-of-requires : tie.Need-outline-of-requires invariant-loop decreases-loop
+outline-of-requires : tie.Need-outline_of-outline-requires invariant-loop decreases-loop
 outline-of-requires c κs = search rules
 
-loop-holds : tie.Need-loop-init invariant-loop decreases-loop
+loop-holds : tie.Need-loop-p-init invariant-loop decreases-loop
 unfolding range
 loop-holds c =
-    let s = c.before.before.before.before.before.before.before.before in
-    (omega arith, refl, kept_none (walks s) s.args.out.now 0)
+    (omega arith, refl, kept_none (walks c.before.before.before.before.before.before.before.before) c.args.out.now 0)
 
-shared-slice-read-pass-over : tie.Need-shared-slice-read-pass-over invariant-loop decreases-loop
-shared-slice-read-pass-over c = let s = start c.before.before in (checked_pattern s.pre.0.0 (lent s) (sought s) s.pre.0.1).some
+shared-slice-read-pass-over : tie.Need-bounds-pattern-0 invariant-loop decreases-loop
+shared-slice-read-pass-over c =
+    let s = c.before.before.before.before.before.before.before.before.before.before.before in
+    (checked_pattern c.requires.0.0 (lent s) (sought s) c.requires.0.1).some
 
-pass-over-requires : tie.Need-pass-over-requires invariant-loop decreases-loop
-pass-over-requires c κs = let l = c.before.before in (l.loop.invariant.0, (start l).requires.0.1.row.sized.most)
+pass-over-requires : tie.Need-pass_over-from-requires invariant-loop decreases-loop
+pass-over-requires c κs = (c.loop-p.invariant.0, c.requires.0.1.row.sized.most)
 
-add-shorter : tie.Need-overflow-add-shorter invariant-loop decreases-loop
+add-shorter : tie.Need-overflow_add-from invariant-loop decreases-loop
 add-shorter c = search rules
 
-shorter-requires : tie.Need-shorter-requires invariant-loop decreases-loop
+shorter-requires : tie.Need-shorter-to-requires invariant-loop decreases-loop
 shorter-requires c κs = search rules
 
-list-within-requires : tie.Need-list-within-requires invariant-loop decreases-loop
+list-within-requires : tie.Need-list_within-count-requires invariant-loop decreases-loop
 list-within-requires c κs =
-    let t = c.before in let l = loop t in let s = start l in
-    let room : l.loop.count + (to t - from t) ≤ length l.loop.out = omega (arith, few l, t.before.pass-over.ensures.0, (stretched t).1.on, (stretched t).1.within, l.loop.inv.1, s.pre.1) in
-    (record { searchable = s.pre.0; outlined = l.before.outline-of.ensures (lent s); symbol = plain l }, (stretched t).1, room)
+    let l = c.before.before.before.before.before in
+    let t = c.before in
+    let room : c.loop-p.count + (to t - from t) ≤ length c.loop-p.out = omega (arith, few l, c.pass_over-from.ensures.0, (stretched t).1.on, (stretched t).1.within, c.loop-p.invariant.1, c.requires.1) in
+    (record { searchable = c.requires.0; outlined = c.outline_of-outline.ensures (lent c.before.before.before.before.before.before.before.before.before.before.before.before.before.before); symbol = plain l }, (stretched t).1, room)
 
-loop-less : tie.Need-loop-smaller invariant-loop decreases-loop
-loop-less c = let t = c.before.before.before.before in omega (arith, (stretched t).0, (stretched t).1.within)
+loop-less : tie.Need-loop-p-smaller invariant-loop decreases-loop
+loop-less c =
+    let t = c.before.before.before.before in
+    omega (arith, (stretched t).0, (stretched t).1.within)
 
-loop-again : tie.Need-loop-preserved invariant-loop decreases-loop
+loop-again : tie.Need-loop-p-preserved invariant-loop decreases-loop
 loop-again c =
-    let w = c.before.before in let t = w.before.before in let l = loop t in let s = start l in
-    let over = t.before.pass-over.ensures in (
-      (stretched t).1.within,
-      omega (arith, w.list-within.auto, l.loop.inv.1),
-      kept_on (walks s) s.args.out.now l.loop.p (from t) (to t) l.loop.count _ l.loop.out _ l.loop.inv.2 over.0 (stretched t).1.on
-          (none_without (lent s) (sought s) s.pre.0 (plain l) l.loop.p (from t) over.1 over.2) w.list-within.ensures,
+    let t = c.before.before.before.before.before.before.before.before.before.before.before.before.before.before.before.before.before in
+    let w = c.before.before.before.before in
+    let over = c.pass_over-from.ensures in (
+      (stretched w).1.within,
+      omega (arith, c.list_within-count.auto, c.loop-p.invariant.1),
+      kept_on (walks t) c.args.out.now c.loop-p.p (from w) (to w) c.loop-p.count _ c.loop-p.out _ c.loop-p.invariant.2 over.0 (stretched w).1.on
+          (none_without (lent t) (sought t) c.requires.0 (plain c.before.before.before.before.before.before.before.before) c.loop-p.p (from w) over.1 over.2) c.list_within-count.ensures,
     )
 
-same-length-2 : tie.Need-same-length-2 invariant-loop decreases-loop
-same-length-2 c = c.before.loop.invariant.1
+same-length-2 : tie.Need-shape_of-out invariant-loop decreases-loop
+same-length-2 c = c.loop-p.invariant.1
 
-returns-2 : tie.Need-returns-2 invariant-loop decreases-loop
+returns-2 : tie.Need-returns invariant-loop decreases-loop
 returns-2 c a k =
-    let l = c.before in let s = start l in let n = length s.args.row.now in
-    let at_end : l.loop.p ≡ n = omega (arith, l.loop.invariant.0, c.loop-test.false) in
-    let same : passing (walks s) (range 0 l.loop.p) ≡ below (walks s) n = ap (λ (m : ℕ). passing (walks s) (range 0 m)) at_end ∙ sym (below-passing (walks s) n) in
+    let l = c.before.before.before.before.before.before.before.before.before.before in
+    let n = length c.args.row.now in
+    let at_end : c.loop-p.p ≡ n = omega (arith, c.loop-p.invariant.0, c.loop-p-test.false) in
+    let same : passing (walks l) (range 0 c.loop-p.p) ≡ below (walks l) n = ap (λ (m : ℕ). passing (walks l) (range 0 m)) at_end ∙ sym (below-passing (walks l) n) in
     record {
-      positions = below (walks s) n;
-      listed = listing a (lent s) (sought s) k n (omega arith);
+      positions = below (walks l) n;
+      listed = listing a (lent l) (sought l) k n (omega arith);
       told = (
-        omega (arith, l.loop.invariant.2.end, ap length same),
-        omega (arith, few l, l.loop.invariant.0, s.pre.1),
-        l.loop.invariant.2.buffer ∙ ap (written s.args.out.now 0) same,
+        omega (arith, c.loop-p.invariant.2.end, ap length same),
+        omega (arith, few c.before, c.loop-p.invariant.0, c.requires.1),
+        c.loop-p.invariant.2.buffer ∙ ap (written c.args.out.now 0) same,
       );
     }
 
-pub write-matches-spec : {M : Type 1} → statement M
-write-matches-spec =
+pub write_matches_spec : {M : Type 1} → statement M
+write_matches_spec =
     tie.close
     (tie.spec
     invariant-loop

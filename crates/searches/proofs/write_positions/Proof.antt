@@ -14,47 +14,46 @@ use borrow.Author.Rules.{rules}
 use Rattle.searches.proofs.write_positions.Statement.{statement}
 use Rattle.searches.proofs.write_positions.Tie as tie
 
-abbrev invariant-loop : tie.invariant-loop
+abbrev invariant-loop : tie.invariant-loop-i
 invariant-loop n out₀ i₀ out i = (i ≤ n) × (length out ≡ length out₀) × (out ≡ written out₀ 0 (positions_below i))
 
-abbrev decreases-loop : tie.decreases-loop
+abbrev decreases-loop : tie.decreases-loop-i
 decreases-loop n out₀ i₀ out i = n - i
 
-loop-holds : tie.Need-loop-init invariant-loop decreases-loop
+loop-holds : tie.Need-loop-i-init invariant-loop decreases-loop
 unfolding below
 loop-holds c = (omega arith, refl, sym (written_nil c.args.out.now 0))
 
-cast-out : tie.Need-overflow-cast-out invariant-loop decreases-loop
-cast-out c = record { fits = omega (arith, c.loop-test.true, c.before.before.requires.1) }
+cast-out : tie.Need-overflow_cast-out invariant-loop decreases-loop
+cast-out c = omega (arith, c.loop-i-test.true, c.requires.1)
 
-mul-out : tie.Need-overflow-mul-out invariant-loop decreases-loop
+mul-out : tie.Need-offset_bounds-out-i invariant-loop decreases-loop
 mul-out c = search rules
 
-slice-write-out : tie.Need-slice-write-out invariant-loop decreases-loop
-slice-write-out c = let l = c.before in omega (arith, c.loop-test.true, l.loop.invariant.1, l.before.requires.0)
+slice-write-out : tie.Need-bounds-out-i invariant-loop decreases-loop
+slice-write-out c = omega (arith, c.loop-i-test.true, c.loop-i.invariant.1, c.requires.0)
 
-add-i : tie.Need-overflow-add-i invariant-loop decreases-loop
+add-i : tie.Need-overflow_step-i invariant-loop decreases-loop
 add-i c = search rules
 
-loop-less : tie.Need-loop-smaller invariant-loop decreases-loop
+loop-less : tie.Need-loop-i-smaller invariant-loop decreases-loop
 loop-less c = search rules
 
-loop-again : tie.Need-loop-preserved invariant-loop decreases-loop
+loop-again : tie.Need-loop-i-preserved invariant-loop decreases-loop
 loop-again c =
-    let l = c.before in let s = l.before in let i = l.loop in
-    let more = ap (λ o. set o i.i i.i) i.invariant.2 ∙ front_snoc s.args.out.now (positions_below i.i) i.i i.i (sym (positions_length i.i)) (omega (arith, c.loop-test.true, s.requires.0)) in
-    (search rules, simp length-set i.invariant.1, more ∙ ap (written s.args.out.now 0) (positions_more i.i))
+    let i = c.loop-i in
+    let more = ap (λ o. set o i.i i.i) i.invariant.2 ∙ front_snoc c.args.out.now (positions_below i.i) i.i i.i (sym (positions_length i.i)) (omega (arith, c.loop-i-test.true, c.requires.0)) in
+    (search rules, simp length-set i.invariant.1, more ∙ ap (written c.args.out.now 0) (positions_more i.i))
 
-same_length : tie.Need-same-length invariant-loop decreases-loop
-same_length c = c.before.loop.invariant.1
+same_length : tie.Need-shape_of-out invariant-loop decreases-loop
+same_length c = c.loop-i.invariant.1
 
 returns : tie.Need-returns invariant-loop decreases-loop
 returns c =
-    let l = c.before in
-    l.loop.invariant.2 ∙ ap (λ n. written l.before.args.out.now 0 (positions_below n)) (omega (arith, c.loop-test.false, l.loop.invariant.0))
+    c.loop-i.invariant.2 ∙ ap (λ n. written c.args.out.now 0 (positions_below n)) (omega (arith, c.loop-i-test.false, c.loop-i.invariant.0))
 
-pub write-positions-spec : {M : Type 1} → statement M
-write-positions-spec =
+pub write_positions_spec : {M : Type 1} → statement M
+write_positions_spec =
     tie.close
     (tie.spec
     invariant-loop

@@ -13,76 +13,76 @@ use borrow.Author.Rules.{rules}
 use Rattle.searches.proofs.write_spans.Statement.{statement}
 use Rattle.searches.proofs.write_spans.Tie as tie
 
-abbrev invariant-loop : tie.invariant-loop
+abbrev invariant-loop : tie.invariant-loop-i
 invariant-loop table out₀ marks i₀ out i =
     (i ≤ variables) × (length out ≡ length out₀) × (out ≡ written out₀ 0 (mark_spans table marks i))
 
-abbrev decreases-loop : tie.decreases-loop
+abbrev decreases-loop : tie.decreases-loop-i
 decreases-loop table out₀ marks i₀ out i = variables - i
 
-loop-holds : tie.Need-loop-init invariant-loop decreases-loop
+loop-holds : tie.Need-loop-i-init invariant-loop decreases-loop
 unfolding mark_spans
-loop-holds c = (search rules, refl, sym (written_nil c.before.before.args.out.now 0))
+loop-holds c = (search rules, refl, sym (written_nil c.args.out.now 0))
 
-mul-m : tie.Need-overflow-mul-m invariant-loop decreases-loop
+mul-m : tie.Need-offset_bounds-marks-i invariant-loop decreases-loop
 mul-m c = search rules
 
-array-read-m : tie.Need-array-read-m invariant-loop decreases-loop
+array-read-m : tie.Need-bounds-marks-i invariant-loop decreases-loop
 array-read-m c = search rules
 
-mark-begin-requires : tie.Need-mark-begin-requires invariant-loop decreases-loop
+mark-begin-requires : tie.Need-mark_begin-requires invariant-loop decreases-loop
 mark-begin-requires c κs = search rules
 
-add-out : tie.Need-overflow-add-out invariant-loop decreases-loop
+add-out : tie.Need-overflow_add-out invariant-loop decreases-loop
 add-out c = search rules
 
-mul-out : tie.Need-overflow-mul-out invariant-loop decreases-loop
+mul-out : tie.Need-offset_bounds-out-i invariant-loop decreases-loop
 mul-out c = search rules
 
-slice-write-out : tie.Need-slice-write-out invariant-loop decreases-loop
+slice-write-out : tie.Need-bounds-out-i invariant-loop decreases-loop
 slice-write-out c = search rules
 
-mark-end-requires : tie.Need-mark-end-requires invariant-loop decreases-loop
-mark-end-requires c κs = c.before.before.before.before.before.requires.0.all c.before.before.loop.i
+mark-end-requires : tie.Need-mark_end-requires invariant-loop decreases-loop
+mark-end-requires c κs = c.requires.0.all c.loop-i.i
 
-add-out-2 : tie.Need-overflow-add-out-2 invariant-loop decreases-loop
+add-out-2 : tie.Need-overflow_add-out-in-loop-i invariant-loop decreases-loop
 add-out-2 c = search rules
 
-add-out-3 : tie.Need-overflow-add-out-3 invariant-loop decreases-loop
+add-out-3 : tie.Need-overflow_add-out-in-loop-i-2 invariant-loop decreases-loop
 add-out-3 c = search rules
 
-mul-out-2 : tie.Need-overflow-mul-out-2 invariant-loop decreases-loop
+mul-out-2 : tie.Need-offset_bounds-out-i-in-loop-i invariant-loop decreases-loop
 mul-out-2 c = search rules
 
-slice-write-out-2 : tie.Need-slice-write-out-2 invariant-loop decreases-loop
+slice-write-out-2 : tie.Need-bounds-out-i-in-loop-i invariant-loop decreases-loop
 slice-write-out-2 c = simp length-set (omega arith)
 
-add-i : tie.Need-overflow-add-i invariant-loop decreases-loop
+add-i : tie.Need-overflow_step-i invariant-loop decreases-loop
 add-i c = search rules
 
-loop-less : tie.Need-loop-smaller invariant-loop decreases-loop
+loop-less : tie.Need-loop-i-smaller invariant-loop decreases-loop
 loop-less c = search rules
 
-loop-again : tie.Need-loop-preserved invariant-loop decreases-loop
+loop-again : tie.Need-loop-i-preserved invariant-loop decreases-loop
 loop-again c =
-    let l = c.before.before.before in let o = l.loop in let s = l.before.before.before in let g = s.args in (
+    let o = c.loop-i in let g = c.args in (
       search rules,
       simp length-set o.invariant.1,
-      ap (λ l. set (set l (o.i + o.i) c.before.mark-begin.result) (o.i + o.i + 1) c.mark_end_lem.result) o.invariant.2
-          ∙ marks_more g.table.now g.t2 g.out.now o.i _ _ (search rules) c.before.mark-begin.ensures c.mark_end_lem.ensures,
+      ap (λ l. set (set l (o.i + o.i) c.mark_begin.result) (o.i + o.i + 1) c.mark_end.result) o.invariant.2
+          ∙ marks_more g.table.now g.marks g.out.now o.i _ _ (search rules) c.mark_begin.ensures c.mark_end.ensures,
     )
 
-same_length : tie.Need-same-length invariant-loop decreases-loop
-same_length c = c.before.loop.invariant.1
+same_length : tie.Need-shape_of-out invariant-loop decreases-loop
+same_length c = c.loop-i.invariant.1
 
 returns : tie.Need-returns invariant-loop decreases-loop
 returns c =
-    let o = c.before.loop in let g = c.before.before.before.before.args in
+    let o = c.loop-i in let g = c.args in
     let end : o.i ≡ variables = omega arith in
-    o.invariant.2 ∙ ap (λ n. written g.out.now 0 (mark_spans g.table.now g.t2 n)) end
+    o.invariant.2 ∙ ap (λ n. written g.out.now 0 (mark_spans g.table.now g.marks n)) end
 
-pub write-spans-spec : {M : Type 1} → statement M
-write-spans-spec =
+pub write_spans_spec : {M : Type 1} → statement M
+write_spans_spec =
     tie.close
     (tie.spec
     invariant-loop
