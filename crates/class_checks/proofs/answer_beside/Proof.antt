@@ -10,61 +10,60 @@ use borrow.Author.Rules.{rules}
 use Rattle.class_checks.proofs.answer_beside.Statement.{statement}
 use Rattle.class_checks.proofs.answer_beside.Tie as tie
 
-enum_told : tie.Need-enum-told
+enum_told : tie.Need-enum_told-1
 enum_told c = search rules
 
-fill-beside-requires : tie.Need-fill-beside-requires
+fill-beside-requires : tie.Need-fill_beside-requires
 fill-beside-requires c κs = search rules
 
-compare-classes-requires : tie.Need-compare-classes-requires
+compare-classes-requires : tie.Need-compare_classes-requires
 compare-classes-requires c κs = search rules
 
-enum-told-2 : tie.Need-enum-told-2
+enum-told-2 : tie.Need-enum_told-in-Right
 enum-told-2 c = search rules
 
-scan-leaders-requires : tie.Need-scan-leaders-requires
-scan-leaders-requires c κs = let s = c.before.before.before.before.before.before.before.before.before in (row_seen s.requires.0.0 s.args.row.now s.args.table.now s.args.classes.now s.requires.0.1 s.requires.1.0.0, s.requires.1.1)
+scan-leaders-requires : tie.Need-scan_leaders-requires
+scan-leaders-requires c κs = (row_seen c.requires.0.0 c.args.row.now c.args.table.now c.args.classes.now c.requires.0.1 c.requires.1.0.0, c.requires.1.1)
 
-same_length : tie.Need-same-length
+same_length : tie.Need-shape_of-heads-then-scan_leaders
 same_length c = search rules
 
-same-length-2 : tie.Need-same-length-2
+same-length-2 : tie.Need-shape_of-links-then-scan_leaders
 same-length-2 c = search rules
 
-returns : tie.Need-returns
+returns : tie.Need-returns-then-scan_leaders
 returns c A r =
-    let s = c.before.before.before.before.before.before.before.before.before.before.before.before.before.before.before in
-    let a = s.args in
-    let k = c.before.before.before.before.before.scan-leaders in
-    subst (λ (q : Asked). Judges A a.row.now a.classes.now q Sound) (sym c.before.before.before.before.before.before.before.before.enum-told2.given.1)
-    (scan_fine A a.row.now a.table.now a.classes.now k.result r s.requires.1.0.0 k.ensures c.if1.true)
+    let a = c.args in
+    let k = c.scan_leaders in
+    subst (λ (q : Asked). Judges A a.row.now a.classes.now q Sound) (sym c.in-Right.is)
+    (scan_fine A a.row.now a.table.now a.classes.now k.result r c.requires.1.0.0 k.ensures c.if-scan_leaders.true)
 
-same-length-3 : tie.Need-same-length-3
+same-length-3 : tie.Need-shape_of-heads-in-First
 same-length-3 c = search rules
 
-same-length-4 : tie.Need-same-length-4
+same-length-4 : tie.Need-shape_of-links-in-First
 same-length-4 c = search rules
 
-returns-2 : tie.Need-returns-2
+returns-2 : tie.Need-returns-in-First
 returns-2 c A r =
-    let a = c.before.before.before.before.before.before.before.before.before.before.before.before.before.before.before.before.args in
-    let k = c.before.before.before.before.before.before.fill-beside in
-    subst (λ (q : Asked). Judges A a.row.now a.classes.now q c.compare-classes.result) (sym c.before.before.before.before.before.before.before.before.before.enum_told.given.1)
-    (λ whose. c.compare-classes.ensures whose ∙ filled-classed whose A a.row.now a.classes.now a.links.now k.new.1.1.0 (k.ensures A r))
+    let a = c.args in
+    let k = c.fill_beside in
+    subst (λ (q : Asked). Judges A a.row.now a.classes.now q c.compare_classes.result) (sym c.in-First.is)
+    (λ whose. c.compare_classes.ensures whose ∙ filled-classed whose A a.row.now a.classes.now a.links.now k.new.classes (k.ensures A r))
 
-same-length-5 : tie.Need-same-length-5
+same-length-5 : tie.Need-shape_of-heads-else-scan_leaders
 same-length-5 c = search rules
 
-same-length-6 : tie.Need-same-length-6
+same-length-6 : tie.Need-shape_of-links-else-scan_leaders
 same-length-6 c = search rules
 
-returns-3 : tie.Need-returns-3
+returns-3 : tie.Need-returns-else-scan_leaders
 returns-3 c A r =
-    let a = c.before.before.before.before.before.before.before.before.before.before.before.before.before.before.before.args in
-    subst (λ (q : Asked). Judges A a.row.now a.classes.now q (Unsound (Misclassed 0))) (sym c.before.before.before.before.before.before.before.before.enum-told2.given.1) tt
+    let a = c.args in
+    subst (λ (q : Asked). Judges A a.row.now a.classes.now q (Unsound (Misclassed 0))) (sym c.in-Right.is) tt
 
-pub answer-beside-spec : {M : Type 1} → statement M
-answer-beside-spec =
+pub answer_beside_spec : {M : Type 1} → statement M
+answer_beside_spec =
     tie.close
     (tie.spec
     enum_told

@@ -10,65 +10,65 @@ use borrow.Author.Rules.{rules}
 use Rattle.class_checks.proofs.check_classes.Statement.{statement}
 use Rattle.class_checks.proofs.check_classes.Tie as tie
 
-tiny-places-requires : tie.Need-tiny-places-requires
+tiny-places-requires : tie.Need-tiny_places-heads-requires
 tiny-places-requires c κs = search rules
 
-tiny-places-requires-2 : tie.Need-tiny-places-requires-2
+tiny-places-requires-2 : tie.Need-tiny_places-links-requires
 tiny-places-requires-2 c κs = search rules
 
-slice-aggregate-check-near : tie.Need-slice-aggregate-check-near
+slice-aggregate-check-near : tie.Need-slice_bounds-check_near-end
 slice-aggregate-check-near c = search rules
 
-slice-aggregate-check-near-2 : tie.Need-slice-aggregate-check-near-2
+slice-aggregate-check-near-2 : tie.Need-slice_bounds-check_near-end-then-row-le-TINY
 slice-aggregate-check-near-2 c = search rules
 
-check-near-requires : tie.Need-check-near-requires
-check-near-requires c κs = let s = c.before.before.before.before.before.before.before.before in (s.requires.0, (s.requires.1, rooms_ready c.before.before.before.tiny-places.result c.before.before.tiny-places2.result (length s.args.row.now) 64 (omega (arith, c.before.before.before.before.if1.true)) (omega arith, omega arith) c.before.before.before.tiny-places.ensures c.before.before.tiny-places2.ensures))
+check-near-requires : tie.Need-check_near-requires
+check-near-requires c κs = (c.requires.0, (c.requires.1, rooms_ready c.tiny_places-heads.result c.tiny_places-links.result (length c.args.row.now) 64 (omega (arith, c.if-row-le-TINY.true)) (omega arith, omega arith) c.tiny_places-heads.ensures c.tiny_places-links.ensures))
 
-returns : tie.Need-returns
+returns : tie.Need-returns-then-row-le-TINY
 returns c = search rules
 
-short-places-requires : tie.Need-short-places-requires
+short-places-requires : tie.Need-short_places-heads-requires
 short-places-requires c κs = search rules
 
-short-places-requires-2 : tie.Need-short-places-requires-2
+short-places-requires-2 : tie.Need-short_places-links-requires
 short-places-requires-2 c κs = search rules
 
-slice-aggregate-check-near-3 : tie.Need-slice-aggregate-check-near-3
+slice-aggregate-check-near-3 : tie.Need-slice_bounds-check_near-end-then-row-le-SHORT
 slice-aggregate-check-near-3 c = search rules
 
-slice-aggregate-check-near-4 : tie.Need-slice-aggregate-check-near-4
+slice-aggregate-check-near-4 : tie.Need-slice_bounds-check_near-end-then-row-le-SHORT-2
 slice-aggregate-check-near-4 c = search rules
 
-check-near-requires-2 : tie.Need-check-near-requires-2
-check-near-requires-2 c κs = let s = c.before.before.before.before.before.before.before.before.before in (s.requires.0, (s.requires.1, rooms_ready c.before.before.before.short-places.result c.before.before.short-places2.result (length s.args.row.now) 512 (omega (arith, c.before.before.before.before.if2.true)) (omega arith, omega arith) c.before.before.before.short-places.ensures c.before.before.short-places2.ensures))
+check-near-requires-2 : tie.Need-check_near-requires-then-row-le-SHORT
+check-near-requires-2 c κs = (c.requires.0, (c.requires.1, rooms_ready c.short_places-heads.result c.short_places-links.result (length c.args.row.now) 512 (omega (arith, c.if-row-le-SHORT.true)) (omega arith, omega arith) c.short_places-heads.ensures c.short_places-links.ensures))
 
-returns-2 : tie.Need-returns-2
+returns-2 : tie.Need-returns-then-row-le-SHORT
 returns-2 c = search rules
 
-answer-far-requires : tie.Need-answer-far-requires
+answer-far-requires : tie.Need-answer_far-requires
 answer-far-requires c κs = search rules
 
-enum_told : tie.Need-enum-told
+enum_told : tie.Need-enum_told-1
 enum_told c = search rules
 
-enum-told-2 : tie.Need-enum-told-2
+enum-told-2 : tie.Need-enum_told-in-Unsound
 enum-told-2 c = search rules
 
-answer-far-requires-2 : tie.Need-answer-far-requires-2
+answer-far-requires-2 : tie.Need-answer_far-requires-in-Unsound
 answer-far-requires-2 c κs = search rules
 
-returns-3 : tie.Need-returns-3
+returns-3 : tie.Need-returns-in-Sound
 returns-3 c A r =
-    let k = c.before.before.answer-far in
-    let a = c.before.before.before.before.before.before.before.before.args in
-    subst (Judges A a.row.now a.classes.now Right) c.enum_told.given.1 (k.ensures A r)
+    let k = c.answer_far in
+    let a = c.args in
+    subst (Judges A a.row.now a.classes.now Right) c.in-Sound.is (k.ensures A r)
 
-returns-4 : tie.Need-returns-4
+returns-4 : tie.Need-returns-in-Unsound
 returns-4 c = search rules
 
-pub check-classes-spec : {M : Type 1} → statement M
-check-classes-spec =
+pub check_classes_spec : {M : Type 1} → statement M
+check_classes_spec =
     tie.close
     (tie.spec
     tiny-places-requires

@@ -22,47 +22,46 @@ twin f c p a r false e m s = λ t.
     let g : t.place ≡ r = omega (arith, t.there) in
     s (subst (λ (n : ℕ). get_or c n 0 ≡ n) g t.itself, subst (SameSign f c p) g t.sign)
 
-mul_wide : tie.Need-overflow-mul-wide
+mul_wide : tie.Need-offset_bounds-classes-a
 mul_wide c = search rules
 
-shared-slice-read-wide : tie.Need-shared-slice-read-wide
+shared-slice-read-wide : tie.Need-bounds-classes-a
 shared-slice-read-wide c = search rules
 
-wide-requires : tie.Need-wide-requires
+wide-requires : tie.Need-wide-x-requires
 wide-requires c κs = search rules
 
-sub-d : tie.Need-overflow-sub-d
+sub-d : tie.Need-overflow_sub-d
 sub-d c = search rules
 
-returns : tie.Need-returns
-returns c = λ f h t. let s = c.before.before.before.before.before.before in omega (arith, t.there, c.before.wide.ensures, c.if1.true, s.requires.1.0)
+returns : tie.Need-returns-then-x-d
+returns c = λ f h t. omega (arith, t.there, c.wide-x.ensures, c.if-x-d.true, c.requires.1.0)
 
-returns-2 : tie.Need-returns-2
-returns-2 c = λ f h t. let s = c.before.before.before.before.before.before.before in omega (arith, t.there, t.before, c.before.before.wide.ensures, c.if2.true, c.before.if1.false, s.requires.1.0)
+returns-2 : tie.Need-returns-then-p-r
+returns-2 c = λ f h t. omega (arith, t.there, t.before, c.wide-x.ensures, c.if-p-r.true, c.if-x-d.false, c.requires.1.0)
 
-symbol-at-requires : tie.Need-symbol-at-requires
-symbol-at-requires c κs = omega (arith, c.before.before.before.before.before.before.before.requires.1)
+symbol-at-requires : tie.Need-symbol_at-requires
+symbol-at-requires c κs = omega (arith, c.requires.1)
 
-symbol-at-requires-2 : tie.Need-symbol-at-requires-2
-symbol-at-requires-2 c κs = omega (arith, c.before.before.before.before.before.before.before.before.requires.1, c.before.if2.false)
+symbol-at-requires-2 : tie.Need-symbol_at-requires-2
+symbol-at-requires-2 c κs = omega (arith, c.requires.1, c.if-p-r.false)
 
-returns-3 : tie.Need-returns-3
+returns-3 : tie.Need-returns-then-symbol_at
 returns-3 c = λ f h t.
-    let s = c.before.before.before.before.before.before.before.before.before.before in
-    let a = s.args in
-    let g : t.place ≡ c.before.before.before.before.before.wide.result - (a.a - a.p) = omega (arith, t.there, c.before.before.before.before.before.wide.ensures, c.before.before.before.before.if1.false, s.requires.1.0) in
-    signs_differ h a.classes.now a.p (c.before.before.before.before.before.wide.result - (a.a - a.p)) (omega (arith, s.requires.1)) (omega (arith, s.requires.1, c.before.before.before.if2.false))
-    (λ e. c.if3.true (c.before.before.symbol_at.ensures ∙ e ∙ sym c.before.symbol-at2.ensures))
+    let a = c.args in
+    let g : t.place ≡ c.wide-x.result - (a.a - a.p) = omega (arith, t.there, c.wide-x.ensures, c.if-x-d.false, c.requires.1.0) in
+    signs_differ h a.classes.now a.p (c.wide-x.result - (a.a - a.p)) (omega (arith, c.requires.1)) (omega (arith, c.requires.1, c.if-p-r.false))
+    (λ e. c.if-symbol_at.true (c.symbol_at.ensures ∙ e ∙ sym c.symbol_at-2.ensures))
     (subst (SameSign f a.classes.now a.p) g t.sign)
 
-check-follower-requires : tie.Need-check-follower-requires
-check-follower-requires c κs = let s = c.before.before.before.before.before.before.before.before.before.before in (s.requires.0, (omega (arith, s.requires.1), omega (arith, s.requires.1, c.before.before.before.if2.false)))
+check-follower-requires : tie.Need-check_follower-requires
+check-follower-requires c κs = (c.requires.0, (omega (arith, c.requires.1), omega (arith, c.requires.1, c.if-p-r.false)))
 
-returns-4 : tie.Need-returns-4
-returns-4 c = λ f h. let s = c.before.before.before.before.before.before.before.before.before.before.before in twin f s.args.classes.now s.args.p s.args.a (c.before.before.before.before.before.before.wide.result - (s.args.a - s.args.p)) c.check-follower.result (omega (arith, c.before.before.before.before.before.before.wide.ensures, c.before.before.before.before.before.if1.false, s.requires.1.0)) (omega (arith, c.before.before.before.before.if2.false)) (c.check-follower.ensures f h)
+returns-4 : tie.Need-returns
+returns-4 c = λ f h. twin f c.args.classes.now c.args.p c.args.a (c.wide-x.result - (c.args.a - c.args.p)) c.check_follower.result (omega (arith, c.wide-x.ensures, c.if-x-d.false, c.requires.1.0)) (omega (arith, c.if-p-r.false)) (c.check_follower.ensures f h)
 
-pub is-twin-spec : {M : Type 1} → statement M
-is-twin-spec =
+pub is_twin_spec : {M : Type 1} → statement M
+is_twin_spec =
     tie.close
     (tie.spec
     mul_wide

@@ -8,40 +8,39 @@ use Rattle.class_checks.proofs.run_from.Statement.{statement}
 use Rattle.class_checks.proofs.run_from.Tie as tie
 
 -- the next position is below p
-once : (c : tie.Then1) → (let a = c.before.before.before.before.args in Along a.table.now a.classes.now a.n a.p (a.p + 1))
+once : (c : tie.Then-leads_on) → (let a = c.args in Along a.table.now a.classes.now a.n a.p (a.p + 1))
 once c =
-    let s = c.before.before.before.before in
-    let a = s.args in
-    let k = c.before.leads-on in
-    let on = granted k.result k.ensures c.if1.true in
-    along_more (along_none a.table.now a.classes.now a.p a.n s.requires.0 s.requires.1) on.0 on.1
+    let a = c.args in
+    let k = c.leads_on in
+    let on = granted k.result k.ensures c.if-leads_on.true in
+    along_more (along_none a.table.now a.classes.now a.p a.n c.requires.0 c.requires.1) on.0 on.1
 
-leads-on-requires : tie.Need-leads-on-requires
+leads-on-requires : tie.Need-leads_on-requires
 leads-on-requires c κs = search rules
 
-returns : tie.Need-returns
-returns c = let s = c.before.before.before.before in run_none s.args.table.now s.args.classes.now s.args.p s.requires.0.itself
+returns : tie.Need-returns-else-leads_on
+returns c = run_none c.args.table.now c.args.classes.now c.args.p c.requires.0.itself
 
-add-next : tie.Need-overflow-add-next
+add-next : tie.Need-overflow_add-next
 add-next c = search rules
 
-leads-on-requires-2 : tie.Need-leads-on-requires-2
+leads-on-requires-2 : tie.Need-leads_on-requires-2
 leads-on-requires-2 c κs = (once c).root
 
-returns-2 : tie.Need-returns-2
+returns-2 : tie.Need-returns-else-leads_on-2
 returns-2 c = (once c.before.before).run
 
-run-strides-requires : tie.Need-run-strides-requires
+run-strides-requires : tie.Need-run_strides-q-requires
 run-strides-requires c κs = let o = once c.before.before in (o.root, o.row)
 
-run-singly-requires : tie.Need-run-singly-requires
+run-singly-requires : tie.Need-run_singly-requires
 run-singly-requires c κs = search rules
 
-returns-3 : tie.Need-returns-3
-returns-3 c = run_then (once c.before.before.before.before).run (run_then c.before.run-strides.ensures.run c.run-singly.ensures)
+returns-3 : tie.Need-returns
+returns-3 c = run_then (once c.before.before.before.before).run (run_then c.run_strides-q.ensures.run c.run_singly.ensures)
 
-pub run-from-spec : {M : Type 1} → statement M
-run-from-spec =
+pub run_from_spec : {M : Type 1} → statement M
+run_from_spec =
     tie.close
     (tie.spec
     leads-on-requires

@@ -9,34 +9,42 @@ use Rattle.class_checks.proofs.Falls.{along_none, along_more, granted}
 use Rattle.class_checks.proofs.run_singly.Statement.{statement}
 use Rattle.class_checks.proofs.run_singly.Tie as tie
 
-abbrev invariant-loop : tie.invariant-loop
+abbrev invariant-loop : tie.invariant-loop-q
 invariant-loop table classes q r₀ r = (z : Rooted table classes q) → Along table classes z.length_of q r
 
-abbrev decreases-loop : tie.decreases-loop
+abbrev decreases-loop : tie.decreases-loop-q
 decreases-loop table classes q r₀ r = length table - r
 
-loop-holds : tie.Need-loop-init invariant-loop decreases-loop
-loop-holds c = let s = c.before.before in λ z. along_none s.args.table.now s.args.classes.now s.args.q z.length_of z refl
+loop-holds : tie.Need-loop-q-init invariant-loop decreases-loop
+loop-holds c = λ z. along_none c.args.table.now c.args.classes.now c.args.q z.length_of z refl
 
-leads-on-requires : tie.Need-leads-on-requires invariant-loop decreases-loop
-leads-on-requires c κs = (c.loop.invariant c.before.before.before.requires).root
+leads-on-requires : tie.Need-leads_on-requires invariant-loop decreases-loop
+leads-on-requires c κs = (c.loop-q.invariant c.requires).root
 
-returns : tie.Need-returns invariant-loop decreases-loop
-returns c = (c.before.before.loop.invariant c.before.before.before.before.before.requires).run
+returns : tie.Need-returns-else-leads_on invariant-loop decreases-loop
+returns c = (c.loop-q.invariant c.requires).run
 
-add_r : tie.Need-overflow-add-r invariant-loop decreases-loop
-add_r c = let z = (c.before.before.loop.invariant c.before.before.before.before.before.requires).root in omega (arith, z.inside, z.most)
+add_r : tie.Need-overflow_add-r invariant-loop decreases-loop
+add_r c = let z = (c.loop-q.invariant c.requires).root in omega (arith, z.inside, z.most)
 
-loop-less : tie.Need-loop-smaller invariant-loop decreases-loop
-loop-less c = let z = (c.before.before.loop.invariant c.before.before.before.before.before.requires).root in omega (arith, z.inside, z.table)
+loop-less : tie.Need-loop-q-smaller invariant-loop decreases-loop
+loop-less c = let z = (c.loop-q.invariant c.requires).root in omega (arith, z.inside, z.table)
 
-loop-again : tie.Need-loop-preserved invariant-loop decreases-loop
+loop-again : tie.Need-loop-q-preserved invariant-loop decreases-loop
 loop-again c =
-    let k = c.before.leads-on in
-    let on = granted k.result k.ensures c.if1.true in
-    λ z. along_more (c.before.before.loop.invariant z) on.0 on.1
+    let k = c.leads_on in
+    let on = granted k.result k.ensures c.if-leads_on.true in
+    λ z. along_more (c.loop-q.invariant z) on.0 on.1
 
-pub run-singly-spec : {M : Type 1} → statement M
-run-singly-spec =
+pub run_singly_spec : {M : Type 1} → statement M
+run_singly_spec =
     tie.close
-    (tie.spec invariant-loop decreases-loop loop-holds leads-on-requires returns add_r loop-less loop-again)
+    (tie.spec
+    invariant-loop
+    decreases-loop
+    loop-holds
+    leads-on-requires
+    returns
+    add_r
+    loop-less
+    loop-again)

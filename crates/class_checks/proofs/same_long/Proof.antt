@@ -14,10 +14,10 @@ use borrow.Author.Rules.{rules}
 use Rattle.class_checks.proofs.same_long.Statement.{statement}
 use Rattle.class_checks.proofs.same_long.Tie as tie
 
-abbrev invariant-loop : tie.invariant-loop
+abbrev invariant-loop : tie.invariant-loop-i
 invariant-loop list p q n same₀ i₀ same i = (i ≤ n) × Says same (SamePart list p q i)
 
-abbrev decreases-loop : tie.decreases-loop
+abbrev decreases-loop : tie.decreases-loop-i
 decreases-loop list p q n same₀ i₀ same i = n - i
 
 either : {A B C : Type 0} → (A → C) → (B → C) → A ⊎ B → C
@@ -36,47 +36,47 @@ more l p q i true e s = λ j h. go j h (dec_lt j i)
     go j h (yes m) = s j m
     go j h (no m) = let g : i ≡ j = omega arith in subst (λ (n : ℕ). get_or l (p + n) 0 ≡ get_or l (q + n) 0) g e
 
-loop-holds : tie.Need-loop-init invariant-loop decreases-loop
+loop-holds : tie.Need-loop-i-init invariant-loop decreases-loop
 loop-holds c = (omega arith, λ i h. absurd (omega arith))
 
-add-if1 : tie.Need-overflow-add-if1 invariant-loop decreases-loop
+add-if1 : tie.Need-overflow_add-p invariant-loop decreases-loop
 add-if1 c = search rules
 
-mul-if1 : tie.Need-overflow-mul-if1 invariant-loop decreases-loop
+mul-if1 : tie.Need-offset_bounds-list-p invariant-loop decreases-loop
 mul-if1 c = search rules
 
-shared-slice-read-if1 : tie.Need-shared-slice-read-if1 invariant-loop decreases-loop
+shared-slice-read-if1 : tie.Need-bounds-list-p invariant-loop decreases-loop
 shared-slice-read-if1 c = search rules
 
-add-if1-2 : tie.Need-overflow-add-if1-2 invariant-loop decreases-loop
+add-if1-2 : tie.Need-overflow_add-q invariant-loop decreases-loop
 add-if1-2 c = search rules
 
-mul-if1-2 : tie.Need-overflow-mul-if1-2 invariant-loop decreases-loop
+mul-if1-2 : tie.Need-offset_bounds-list-q invariant-loop decreases-loop
 mul-if1-2 c = search rules
 
-shared-slice-read-if1-2 : tie.Need-shared-slice-read-if1-2 invariant-loop decreases-loop
+shared-slice-read-if1-2 : tie.Need-bounds-list-q invariant-loop decreases-loop
 shared-slice-read-if1-2 c = search rules
 
-add-i : tie.Need-overflow-add-i invariant-loop decreases-loop
+add-i : tie.Need-overflow_add-i invariant-loop decreases-loop
 add-i c = search rules
 
-loop-less : tie.Need-loop-smaller invariant-loop decreases-loop
+loop-less : tie.Need-loop-i-smaller invariant-loop decreases-loop
 loop-less c = search rules
 
-loop-again : tie.Need-loop-preserved invariant-loop decreases-loop
-loop-again c = let a = c.before.before.before.before.before.args in let l = c.before.before.before.before.loop in (
-  omega (arith, c.before.before.before.loop-test.true),
-  either (λ x. miss a.list.now a.p a.q l.i c.if1.same x.0.taken x.1)
-      (λ x. subst (λ (b : Bool). Says b (SamePart a.list.now a.p a.q (l.i + 1))) (sym x.1) (more a.list.now a.p a.q l.i l.same x.0.left l.invariant.1)) c.if1.branch,
+loop-again : tie.Need-loop-i-preserved invariant-loop decreases-loop
+loop-again c = let a = c.args in let l = c.loop-i in (
+  omega (arith, c.loop-i-test.true),
+  either (λ x. miss a.list.now a.p a.q l.i c.if-list-p.same x.if-list-p.true x.same-is)
+      (λ x. subst (λ (b : Bool). Says b (SamePart a.list.now a.p a.q (l.i + 1))) (sym x.same-is) (more a.list.now a.p a.q l.i l.same x.if-list-p.false l.invariant.1)) c.if-list-p.branch-raw,
 )
 
 returns : tie.Need-returns invariant-loop decreases-loop
-returns c = let a = c.before.before.args in let l = c.before.loop in
-    let e : l.i ≡ a.n = omega (arith, l.invariant.0, c.loop-test.false) in
+returns c = let a = c.args in let l = c.loop-i in
+    let e : l.i ≡ a.n = omega (arith, l.invariant.0, c.loop-i-test.false) in
     subst (λ (n : ℕ). Says l.same (SamePart a.list.now a.p a.q n)) e l.invariant.1
 
-pub same-long-spec : {M : Type 1} → statement M
-same-long-spec =
+pub same_long_spec : {M : Type 1} → statement M
+same_long_spec =
     tie.close
     (tie.spec
     invariant-loop

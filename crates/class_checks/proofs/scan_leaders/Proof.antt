@@ -14,73 +14,72 @@ use borrow.Author.Rules.{rules}
 use Rattle.class_checks.proofs.scan_leaders.Statement.{statement}
 use Rattle.class_checks.proofs.scan_leaders.Tie as tie
 
-abbrev invariant-loop : tie.invariant-loop
+abbrev invariant-loop : tie.invariant-loop-bare
 invariant-loop row table classes heads₀ links₀ last₀ heads links last =
     (last < length row) × (length heads ≡ length heads₀) × (length links ≡ length links₀)
     × ((f : Forest) → Shown f row table → Reached f classes last (last + 1) × Entered f classes heads links (length heads₀) last)
 
-abbrev decreases-loop : tie.decreases-loop
+abbrev decreases-loop : tie.decreases-loop-bare
 decreases-loop row table classes heads₀ links₀ last₀ heads links last = length row - last
 
 -- the bare position that was found
-found : (c : tie.After-known-told invariant-loop decreases-loop) (f : Forest) → Shown f c.before.before.before.before.before.before.before.before.before.before.before.before.before.args.row.now c.before.before.before.before.before.before.before.before.before.before.before.before.before.args.table.now → Nexts f c.before.before.before.before.before.before.before.before.before.before.before.before.before.args.classes.now (length c.before.before.before.before.before.before.before.before.before.before.before.before.before.args.row.now) c.before.before.before.before.loop.last (After c.before.next.given.0.0 c.before.next.given.0.1.0)
+found : (c : tie.In-After invariant-loop decreases-loop) (f : Forest) → Shown f c.args.row.now c.args.table.now → Nexts f c.args.classes.now (length c.args.row.now) c.loop-bare.last (After c.in-After.bare c.in-After.at)
 found c f h =
-    let a = c.before.before.before.before.before.before.before.before.before.before.before.before.before.args in
-    subst (Nexts f a.classes.now (length a.row.now) c.before.before.before.before.loop.last) c.before.next.given.1 (c.before.before.before.next-bare.ensures f h)
+    let a = c.args in
+    subst (Nexts f a.classes.now (length a.row.now) c.loop-bare.last) c.in-After.is (c.next_bare-next.ensures f h)
 
 -- it is in the chains
-entered : (c : tie.Then3 invariant-loop decreases-loop) (f : Forest) → Shown f c.before.before.before.before.before.before.before.before.before.before.before.before.before.before.before.before.before.before.before.before.before.args.row.now c.before.before.before.before.before.before.before.before.before.before.before.before.before.before.before.before.before.before.before.before.before.args.table.now → Entered f c.before.before.before.before.before.before.before.before.before.before.before.before.before.before.before.before.before.before.before.before.before.args.classes.now c.before.before.before.before.before.enter-bare.new.1.1.1.0 c.before.before.before.before.before.enter-bare.new.1.1.1.1.0 (length c.before.before.before.before.before.before.before.before.before.before.before.before.before.before.before.before.before.before.before.before.before.args.heads.now) (c.before.before.before.before.before.before.before.before.before.next.given.0.0 + 1)
+entered : (c : tie.Then-enter_bare invariant-loop decreases-loop) (f : Forest) → Shown f c.args.row.now c.args.table.now → Entered f c.args.classes.now c.enter_bare.new.heads c.enter_bare.new.links (length c.args.heads.now) (c.in-After.bare + 1)
 entered c f h =
-    let a = c.before.before.before.before.before.before.before.before.before.before.before.before.before.before.before.before.before.before.before.before.before.args in
-    let k = c.before.before.before.before.before.enter-bare in
-    subst (λ (m : ℕ). Entered f a.classes.now k.new.1.1.1.0 k.new.1.1.1.1.0 m (c.before.before.before.before.before.before.before.before.before.next.given.0.0 + 1)) c.before.before.before.before.before.before.before.before.before.before.before.before.loop.invariant.1
-    (subst (λ (b : Bool). Grants b (Entered f a.classes.now k.new.1.1.1.0 k.new.1.1.1.1.0 (length c.before.before.before.before.before.before.before.before.before.before.before.before.loop.heads) (c.before.before.before.before.before.before.before.before.before.next.given.0.0 + 1))) c.if3.true (k.ensures f h))
+    let a = c.args in
+    let k = c.enter_bare in
+    subst (λ (m : ℕ). Entered f a.classes.now k.new.heads k.new.links m (c.in-After.bare + 1)) c.loop-bare.invariant.1
+    (subst (λ (b : Bool). Grants b (Entered f a.classes.now k.new.heads k.new.links (length c.loop-bare.heads) (c.in-After.bare + 1))) c.if-enter_bare.true (k.ensures f h))
 
-returns : tie.Need-returns invariant-loop decreases-loop
+returns : tie.Need-returns-then-row-eq0 invariant-loop decreases-loop
 returns c = λ f h. tt
 
-shared-slice-read-if2 : tie.Need-shared-slice-read-if2 invariant-loop decreases-loop
+shared-slice-read-if2 : tie.Need-bounds-classes-0 invariant-loop decreases-loop
 shared-slice-read-if2 c = search rules
 
-returns-2 : tie.Need-returns-2 invariant-loop decreases-loop
+returns-2 : tie.Need-returns-then-classes-ne0 invariant-loop decreases-loop
 returns-2 c = λ f h. tt
 
-loop-holds : tie.Need-loop-init invariant-loop decreases-loop
+loop-holds : tie.Need-loop-bare-init invariant-loop decreases-loop
 loop-holds c =
-    let s = c.before.before.before.before.before.before.before.before in
-    let a = s.args in
-    let k = s.requires.1 in (
-      omega (arith, c.before.before.if1.false),
+    let a = c.args in
+    let k = c.requires.1 in (
+      omega (arith, c.if-row-eq0.false),
       refl,
       refl,
-      λ f h. (reached_start f a.classes.now c.if2.false, entered_none f a.classes.now a.heads.now a.links.now (length a.heads.now) k.1 k.2),
+      λ f h. (reached_start f a.classes.now c.if-classes-ne0.false, entered_none f a.classes.now a.heads.now a.links.now (length a.heads.now) k.1 k.2),
     )
 
-next-bare-requires : tie.Need-next-bare-requires invariant-loop decreases-loop
-next-bare-requires c κs = (c.before.before.before.before.before.before.before.before.before.requires.0, (c.loop.invariant.0, λ f h. (c.loop.invariant.3 f h).0))
+next-bare-requires : tie.Need-next_bare-next-requires invariant-loop decreases-loop
+next-bare-requires c κs = (c.requires.0, (c.loop-bare.invariant.0, λ f h. (c.loop-bare.invariant.3 f h).0))
 
-enum-known-next : tie.Need-enum-known-next invariant-loop decreases-loop
+enum-known-next : tie.Need-enum_known-next invariant-loop decreases-loop
 enum-known-next c = search rules
 
-enum_told : tie.Need-enum-told invariant-loop decreases-loop
+enum_told : tie.Need-enum_told-1 invariant-loop decreases-loop
 enum_told c = search rules
 
-same_length : tie.Need-same-length invariant-loop decreases-loop
+same_length : tie.Need-shape_of-heads-in_default invariant-loop decreases-loop
 same_length c = search rules
 
-same-length-2 : tie.Need-same-length-2 invariant-loop decreases-loop
+same-length-2 : tie.Need-shape_of-links-in_default invariant-loop decreases-loop
 same-length-2 c = search rules
 
-returns-3 : tie.Need-returns-3 invariant-loop decreases-loop
+returns-3 : tie.Need-returns-in_default invariant-loop decreases-loop
 returns-3 c = λ f h. tt
 
-enter-bare-requires : tie.Need-enter-bare-requires invariant-loop decreases-loop
+enter-bare-requires : tie.Need-enter_bare-requires invariant-loop decreases-loop
 enter-bare-requires c κs =
-    let s = c.before.before.before.before.before.before.before.before.before.before.before.before.before.before.before in
-    let z = s.requires.0 in
-    let l = c.before.before.before.before.before.before.loop in
-    let r = s.requires.1.0 in
-    let k = found c.before.before z.forest z.shown in (
+    let s = c.before.before in
+    let z = c.requires.0 in
+    let l = c.loop-bare in
+    let r = c.requires.1.0 in
+    let k = found s z.forest z.shown in (
       z,
       (
         (
@@ -88,53 +87,52 @@ enter-bare-requires c κs =
           record { some = omega (arith, l.invariant.1, r.some); most = omega (arith, l.invariant.1, r.most); places = omega (arith, l.invariant.2, r.places) },
         ),
         λ f h.
-            let n = found c.before.before f h in
-            subst (λ (m : ℕ). Entered f s.args.classes.now l.heads l.links m c.before.before.before.next.given.0.0) (sym l.invariant.1)
+            let n = found s f h in
+            subst (λ (m : ℕ). Entered f c.args.classes.now l.heads l.links m c.in-After.bare) (sym l.invariant.1)
             (entered_on (l.invariant.3 f h).1 n.3 n.5),
       ),
     )
 
-same-length-3 : tie.Need-same-length-3 invariant-loop decreases-loop
+same-length-3 : tie.Need-shape_of-heads-else-enter_bare invariant-loop decreases-loop
 same-length-3 c = search rules
 
-same-length-4 : tie.Need-same-length-4 invariant-loop decreases-loop
+same-length-4 : tie.Need-shape_of-links-else-enter_bare invariant-loop decreases-loop
 same-length-4 c = search rules
 
-returns-4 : tie.Need-returns-4 invariant-loop decreases-loop
+returns-4 : tie.Need-returns-else-enter_bare invariant-loop decreases-loop
 returns-4 c = λ f h. tt
 
-same-length-5 : tie.Need-same-length-5 invariant-loop decreases-loop
+same-length-5 : tie.Need-shape_of-heads-then-row-at invariant-loop decreases-loop
 same-length-5 c = search rules
 
-same-length-6 : tie.Need-same-length-6 invariant-loop decreases-loop
+same-length-6 : tie.Need-shape_of-links-then-row-at invariant-loop decreases-loop
 same-length-6 c = search rules
 
-returns-5 : tie.Need-returns-5 invariant-loop decreases-loop
+returns-5 : tie.Need-returns-then-row-at invariant-loop decreases-loop
 returns-5 c = λ f h.
     let n = found c.before.before.before.before.before.before.before.before.before f h in
-    reached_end (omega (arith, c.if4.true, n.1, h.many)) n.4 (entered c.before f h)
+    reached_end (omega (arith, c.if-row-at.true, n.1, h.many)) n.4 (entered c.before f h)
 
-loop-less : tie.Need-loop-smaller invariant-loop decreases-loop
+loop-less : tie.Need-loop-bare-smaller invariant-loop decreases-loop
 loop-less c =
-    let z = c.before.before.before.before.before.before.before.before.before.before.before.before.before.before.before.before.before.before.before.before.before.before.requires.0 in
-    omega (arith, c.if4.false, (found c.before.before.before.before.before.before.before.before.before z.forest z.shown).0)
+    let z = c.requires.0 in
+    omega (arith, c.if-row-at.false, (found c.before.before.before.before.before.before.before.before.before z.forest z.shown).0)
 
-loop-again : tie.Need-loop-preserved invariant-loop decreases-loop
+loop-again : tie.Need-loop-bare-preserved invariant-loop decreases-loop
 loop-again c =
-    let s = c.before.before.before.before.before.before.before.before.before.before.before.before.before.before.before.before.before.before.before.before.before.before in
-    let l = c.before.before.before.before.before.before.before.before.before.before.before.before.before.loop in
-    let k = c.before.before.before.before.before.before.enter-bare in
-    let inside : c.before.before.before.before.before.before.before.before.before.before.next.given.0.1.0 < length s.args.row.now = omega (arith, c.if4.false) in (
+    let l = c.loop-bare in
+    let k = c.enter_bare in
+    let inside : c.in-After.at < length c.args.row.now = omega (arith, c.if-row-at.false) in (
       inside,
-      k.auto.1.1.1.0 ∙ l.invariant.1,
-      k.auto.1.1.1.1.0 ∙ l.invariant.2,
+      k.auto.heads ∙ l.invariant.1,
+      k.auto.links ∙ l.invariant.2,
       λ f h.
           let n = found c.before.before.before.before.before.before.before.before.before f h in
           (reached_next h inside n.4 (n.2 inside), entered_next n.4 (entered c.before f h)),
     )
 
-pub scan-leaders-spec : {M : Type 1} → statement M
-scan-leaders-spec =
+pub scan_leaders_spec : {M : Type 1} → statement M
+scan_leaders_spec =
     tie.close
     (tie.spec
     invariant-loop

@@ -9,5 +9,8 @@ use Rattle.class_checks.proofs.short_places.Tie as tie
 returns : tie.Need-returns
 returns c = (refl, zeros_anywhere (replicate 512 0) 512 refl (λ h m. get_or-replicate 512 h 0 0 m))
 
-pub short-places-spec : {M : Type 1} → statement M
-short-places-spec = tie.close (tie.spec returns)
+pub short_places_spec : {M : Type 1} → statement M
+short_places_spec =
+    tie.close
+    (tie.spec
+    returns)
