@@ -13,40 +13,42 @@ use Rattle.bars.proofs.read_bars.Statement.{statement}
 use Rattle.bars.proofs.read_bars.Tie as tie
 
 -- nothing is refused, where the symbols are copied
-fine : (c : tie.After-enum-told) → let a = c.before.before.before.before.before.before.args in
+fine : (c : tie.In-Fine) → let a = c.args in
     read_check a.arities.now a.bars.now (length a.row.now) ≡ Fine
-fine c = sym c.before.before.check-read.ensures ∙ c.enum_told.given.1
+fine c = sym c.check_read.ensures ∙ c.in-Fine.is
 
-check-read-requires : tie.Need-check-read-requires
+check-read-requires : tie.Need-check_read-requires
 check-read-requires c κs = search rules
 
-enum-known-r : tie.Need-enum-known-r
+enum-known-r : tie.Need-enum_known-r
 enum-known-r c = search rules
 
-enum_told : tie.Need-enum-told
+enum_told : tie.Need-enum_told-1
 enum_told c = search rules
 
-copy-symbols-requires : tie.Need-copy-symbols-requires
-copy-symbols-requires c κs = (twice _ _ _ (fine c.before), (read_readable _ _ _ (fine c.before)).room)
+copy-symbols-requires : tie.Need-copy_symbols-requires
+copy-symbols-requires c κs =
+    let s = c.before in
+    (twice _ _ _ (fine s), (read_readable _ _ _ (fine s)).room)
 
-returns : tie.Need-returns
+returns : tie.Need-returns-in-Refused
 returns c =
-    let h = sym c.before.before.before.check-read.ensures ∙ c.before.r.given.1 in
+    let h = sym c.check_read.ensures ∙ c.in-Refused.is in
     record { answer = simp h; row = simp h }
 
-same_length : tie.Need-same-length
+same_length : tie.Need-shape_of-row
 same_length c = search rules
 
-returns-2 : tie.Need-returns-2
+returns-2 : tie.Need-returns-in-Fine
 returns-2 c =
-    let a = c.before.before.before.before.before.before.before.before.before.before.args in
+    let a = c.args in
     let h = fine c.before.before.before.before in
     let l = read_readable _ _ _ h in
     let half = rooted_half a.arities.now a.bars.now (symbols_most a.arities.now l.fine) l.closed in
-    record { answer = simp (h, half); row = c.before.before.copy-symbols.ensures ∙ simp h }
+    record { answer = simp (h, half); row = c.copy_symbols.ensures ∙ simp h }
 
-pub read-bars-spec : {M : Type 1} → statement M
-read-bars-spec =
+pub read_bars_spec : {M : Type 1} → statement M
+read_bars_spec =
     tie.close
     (tie.spec
     check-read-requires

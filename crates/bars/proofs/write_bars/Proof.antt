@@ -11,41 +11,41 @@ use Rattle.bars.proofs.write_bars.Statement.{statement}
 use Rattle.bars.proofs.write_bars.Tie as tie
 
 -- nothing is refused, where the form is written
-fine : (c : tie.After-enum-told) → let a = c.before.before.before.before.before.before.args in
+fine : (c : tie.In-Fine) → let a = c.args in
     write_check a.arities.now a.row.now (length a.bars.now) ≡ Fine
-fine c = sym c.before.before.check-write.ensures ∙ c.enum_told.given.1
+fine c = sym c.check_write.ensures ∙ c.in-Fine.is
 
-check-write-requires : tie.Need-check-write-requires
+check-write-requires : tie.Need-check_write-requires
 check-write-requires c κs = search rules
 
-enum-known-r : tie.Need-enum-known-r
+enum-known-r : tie.Need-enum_known-r
 enum-known-r c = search rules
 
-enum_told : tie.Need-enum-told
+enum_told : tie.Need-enum_told-1
 enum_told c = search rules
 
-lay-form-requires : tie.Need-lay-form-requires
+lay-form-requires : tie.Need-lay_form-requires
 lay-form-requires c κs = write_writable _ _ _ (fine c.before)
 
-mul-t12 : tie.Need-overflow-mul-t12
+mul-t12 : tie.Need-overflow_mul-result
 mul-t12 c = search rules
 
-returns : tie.Need-returns
+returns : tie.Need-returns-in-Refused
 returns c =
-    let h = sym c.before.before.before.check-write.ensures ∙ c.before.r.given.1 in
+    let h = sym c.check_write.ensures ∙ c.in-Refused.is in
     record { answer = simp h; bars = simp h }
 
-same_length : tie.Need-same-length
+same_length : tie.Need-shape_of-bars
 same_length c = search rules
 
-returns-2 : tie.Need-returns-2
+returns-2 : tie.Need-returns-in-Fine
 returns-2 c =
-    let a = c.before.before.before.before.before.before.before.before.before.before.args in
+    let a = c.args in
     let h = fine c.before.before.before.before in
-    record { answer = simp (h, length_bars a.arities.now a.row.now); bars = c.before.before.lay-form.ensures ∙ simp h }
+    record { answer = simp (h, length_bars a.arities.now a.row.now); bars = c.lay_form.ensures ∙ simp h }
 
-pub write-bars-spec : {M : Type 1} → statement M
-write-bars-spec =
+pub write_bars_spec : {M : Type 1} → statement M
+write_bars_spec =
     tie.close
     (tie.spec
     check-write-requires

@@ -12,7 +12,7 @@ use borrow.Author.Rules.{rules}
 use Rattle.bars.proofs.reader.check_closing.Statement.{statement}
 use Rattle.bars.proofs.reader.check_closing.Tie as tie
 
-abbrev invariant-loop : tie.invariant-loop
+abbrev invariant-loop : tie.invariant-loop-i
 invariant-loop arities bars lacks₀ depth₀ i₀ lacks depth i =
     (i ≤ length bars)
     × (depth ≤ i)
@@ -20,162 +20,161 @@ invariant-loop arities bars lacks₀ depth₀ i₀ lacks depth i =
     × (closing arities (get_or lacks₀ 0 0 ∷ []) 1 (drop 1 bars) ≡ closing arities (lacking lacks depth) i (drop i bars))
     × (0 < depth)
 
-abbrev decreases-loop : tie.decreases-loop
+abbrev decreases-loop : tie.decreases-loop-i
 decreases-loop arities bars lacks₀ depth₀ i₀ lacks depth i = length bars - i
 
 -- in the loop: the parameters at entry
 abbrev Here : Type 0
-Here = tie.In-loop invariant-loop decreases-loop
+Here = tie.In-loop-i invariant-loop decreases-loop
 
 abbrev A : Here → List ℕ
-A i = i.before.before.before.before.before.args.arities.now
+A i = i.args.arities.now
 
 abbrev B : Here → List ℕ
-B i = i.before.before.before.before.before.args.bars.now
+B i = i.args.bars.now
 
-deep : (i : Here) → length (B i) ≤ length i.before.loop.lacks
-deep i = omega (arith, i.before.loop.inv.2, i.before.before.before.before.before.pre.room)
+deep : (i : Here) → length (B i) ≤ length i.loop-i.lacks
+deep i = omega (arith, i.loop-i.invariant.2, i.requires.room)
 
 -- how many children the innermost open node lacks
 abbrev innermost : Here → ℕ
-innermost i = get_or i.before.loop.lacks (i.before.loop.depth - 1) 0
+innermost i = get_or i.loop-i.lacks (i.loop-i.depth - 1) 0
 
-loop-holds : tie.Need-loop-init invariant-loop decreases-loop
+loop-holds : tie.Need-loop-i-init invariant-loop decreases-loop
 loop-holds c =
-    let s = c.before.before.before in
-    (omega (arith, s.requires.some), search rules, refl, ap (λ (ks : List ℕ). closing s.args.arities.now ks 1 (drop 1 s.args.bars.now)) (lacking_one s.args.lacks.now), search rules)
+    (omega (arith, c.requires.some), search rules, refl, ap (λ (ks : List ℕ). closing c.args.arities.now ks 1 (drop 1 c.args.bars.now)) (lacking_one c.args.lacks.now), search rules)
 
-mul-s : tie.Need-overflow-mul-s invariant-loop decreases-loop
+mul-s : tie.Need-offset_bounds-bars-i invariant-loop decreases-loop
 mul-s c = search rules
 
-shared-slice-read-s : tie.Need-shared-slice-read-s invariant-loop decreases-loop
+shared-slice-read-s : tie.Need-bounds-bars-i invariant-loop decreases-loop
 shared-slice-read-s c = search rules
 
-sub-left : tie.Need-overflow-sub-left invariant-loop decreases-loop
-sub-left c = let i = c.before in omega (arith, i.before.loop.invariant.4)
+sub-left : tie.Need-overflow_sub-left invariant-loop decreases-loop
+sub-left c = omega (arith, c.loop-i.invariant.4)
 
-slice-read-left : tie.Need-slice-read-left invariant-loop decreases-loop
-slice-read-left c = let i = c.before.before in omega (arith, deep i, i.before.loop.invariant.4, i.before.loop.invariant.1, i.loop-test.true)
+slice-read-left : tie.Need-bounds-lacks-depth invariant-loop decreases-loop
+slice-read-left c = omega (arith, deep c.before.before, c.loop-i.invariant.4, c.loop-i.invariant.1, c.loop-i-test.true)
 
-same_length : tie.Need-same-length invariant-loop decreases-loop
+same_length : tie.Need-shape_of-lacks-then-left-gt0 invariant-loop decreases-loop
 same_length c = search rules
 
-returns : tie.Need-returns invariant-loop decreases-loop
+returns : tie.Need-returns-then-left-gt0 invariant-loop decreases-loop
 returns c =
-    let i = c.before.before.before.before in
-    let l = i.before.loop in
-    let lack : 0 < innermost i = omega (arith, c.if2.true) in
-    sym (bar_too_soon (A i) (B i) l.lacks l.depth l.i _ l.invariant.3 i.loop-test.true l.invariant.4 lack c.before.if1.true)
+    let t = c.before.before.before.before in
+    let l = c.loop-i in
+    let lack : 0 < innermost t = omega (arith, c.if-left-gt0.true) in
+    sym (bar_too_soon (A t) (B t) l.lacks l.depth l.i _ l.invariant.3 c.loop-i-test.true l.invariant.4 lack c.if-s.true)
 
-sub-depth : tie.Need-overflow-sub-depth invariant-loop decreases-loop
-sub-depth c = let i = c.before.before.before.before in omega (arith, i.before.loop.invariant.4)
+sub-depth : tie.Need-overflow_sub-depth invariant-loop decreases-loop
+sub-depth c = omega (arith, c.loop-i.invariant.4)
 
-add-i : tie.Need-overflow-add-i invariant-loop decreases-loop
+add-i : tie.Need-overflow_add-i invariant-loop decreases-loop
 add-i c = search rules
 
 -- what is read on with behind a bar
-closed : (c : tie.Else2 invariant-loop decreases-loop) → let i = c.before.before.before.before in let l = i.before.loop in
-    closing (A i) (get_or i.before.before.before.before.before.args.lacks.now 0 0 ∷ []) 1 (drop 1 (B i)) ≡ closing (A i) (lacking l.lacks (l.depth - 1)) (l.i + 1) (drop (l.i + 1) (B i))
+closed : (c : tie.Else-left-gt0 invariant-loop decreases-loop) → let l = c.loop-i in
+    closing (A c.before.before.before.before) (get_or c.args.lacks.now 0 0 ∷ []) 1 (drop 1 (B c.before.before.before.before)) ≡ closing (A c.before.before.before.before) (lacking l.lacks (l.depth - 1)) (l.i + 1) (drop (l.i + 1) (B c.before.before.before.before))
 closed c =
-    let i = c.before.before.before.before in
-    let l = i.before.loop in
-    let full : innermost i ≡ 0 = omega (arith, c.if2.false) in
-    bar_closes (A i) (B i) l.lacks l.depth l.i _ l.invariant.3 i.loop-test.true l.invariant.4 full c.before.if1.true
+    let t = c.before.before.before.before in
+    let l = c.loop-i in
+    let full : innermost t ≡ 0 = omega (arith, c.if-left-gt0.false) in
+    bar_closes (A t) (B t) l.lacks l.depth l.i _ l.invariant.3 c.loop-i-test.true l.invariant.4 full c.if-s.true
 
-check-end-requires : tie.Need-check-end-requires invariant-loop decreases-loop
+check-end-requires : tie.Need-check_end-requires invariant-loop decreases-loop
 check-end-requires c κs = search rules
 
-same-length-2 : tie.Need-same-length-2 invariant-loop decreases-loop
+same-length-2 : tie.Need-shape_of-lacks-then-depth-eq0 invariant-loop decreases-loop
 same-length-2 c = search rules
 
-returns-2 : tie.Need-returns-2 invariant-loop decreases-loop
+returns-2 : tie.Need-returns-then-depth-eq0 invariant-loop decreases-loop
 unfolding lacking
 returns-2 c =
-    let i = c.before.before.before.before.before.before in
-    let l = i.before.loop in
-    c.check-end.ensures (A i)
-    ∙ sym (closed c.before.before ∙ ap (λ (n : ℕ). closing (A i) (lacking l.lacks n) (l.i + 1) (drop (l.i + 1) (B i))) c.before.if3.true)
+    let s = c.before.before.before.before.before.before in
+    let l = c.loop-i in
+    c.check_end.ensures (A s)
+    ∙ sym (closed c.before.before ∙ ap (λ (n : ℕ). closing (A s) (lacking l.lacks n) (l.i + 1) (drop (l.i + 1) (B s))) c.if-depth-eq0.true)
 
-loop-less : tie.Need-loop-smaller invariant-loop decreases-loop
+loop-less : tie.Need-loop-i-smaller-then-s invariant-loop decreases-loop
 loop-less c = search rules
 
-loop-again : tie.Need-loop-preserved invariant-loop decreases-loop
+loop-again : tie.Need-loop-i-preserved-then-s invariant-loop decreases-loop
 loop-again c =
-    let l = c.before.before.before.before.before.before.loop in
-    (search rules, omega (arith, l.invariant.1), l.invariant.2, closed c.before, omega (arith, c.if3.false))
+    let l = c.loop-i in
+    (search rules, omega (arith, l.invariant.1), l.invariant.2, closed c.before, omega (arith, c.if-depth-eq0.false))
 
-same-length-3 : tie.Need-same-length-3 invariant-loop decreases-loop
+same-length-3 : tie.Need-shape_of-lacks-then-left-eq0 invariant-loop decreases-loop
 same-length-3 c = search rules
 
-returns-3 : tie.Need-returns-3 invariant-loop decreases-loop
+returns-3 : tie.Need-returns-then-left-eq0 invariant-loop decreases-loop
 returns-3 c =
-    let i = c.before.before.before.before in
-    let l = i.before.loop in
-    sym (child_too_many (A i) (B i) l.lacks l.depth l.i _ l.invariant.3 i.loop-test.true l.invariant.4 c.if4.true c.before.if1.false)
+    let t = c.before.before.before.before in
+    let l = c.loop-i in
+    sym (child_too_many (A t) (B t) l.lacks l.depth l.i _ l.invariant.3 c.loop-i-test.true l.invariant.4 c.if-left-eq0.true c.if-s.false)
 
-cast-if5 : tie.Need-overflow-cast-if5 invariant-loop decreases-loop
-cast-if5 c = let e = c.before.before.before in omega (arith, e.shared-slice-known3.given e.before.before.loop.i)
+cast-if5 : tie.Need-overflow_cast-s invariant-loop decreases-loop
+cast-if5 c = omega (arith, c.shared_slice_known-in-loop-i-1.given c.loop-i.i)
 
-same-length-4 : tie.Need-same-length-4 invariant-loop decreases-loop
+same-length-4 : tie.Need-shape_of-lacks-then-arities-s invariant-loop decreases-loop
 same-length-4 c = search rules
 
-returns-4 : tie.Need-returns-4 invariant-loop decreases-loop
+returns-4 : tie.Need-returns-then-arities-s invariant-loop decreases-loop
 returns-4 c =
-    let i = c.before.before.before.before.before in
-    let l = i.before.loop in
-    let lack : 0 < innermost i = omega (arith, c.before.if4.false) in
-    sym (no_symbol (A i) (B i) l.lacks l.depth l.i _ l.invariant.3 i.loop-test.true l.invariant.4 lack c.before.before.if1.false c.if5.true)
+    let t = c.before.before.before.before.before in
+    let l = c.loop-i in
+    let lack : 0 < innermost t = omega (arith, c.if-left-eq0.false) in
+    sym (no_symbol (A t) (B t) l.lacks l.depth l.i _ l.invariant.3 c.loop-i-test.true l.invariant.4 lack c.if-s.false c.if-arities-s.true)
 
-sub-lacks : tie.Need-overflow-sub-lacks invariant-loop decreases-loop
-sub-lacks c = let i = c.before.before.before.before.before in omega (arith, i.before.loop.invariant.4, c.before.if4.false)
+sub-lacks : tie.Need-overflow_sub-lacks invariant-loop decreases-loop
+sub-lacks c = omega (arith, c.loop-i.invariant.4, c.if-left-eq0.false)
 
-sub-lacks-2 : tie.Need-overflow-sub-lacks-2 invariant-loop decreases-loop
-sub-lacks-2 c = let i = c.before.before.before.before.before in omega (arith, i.before.loop.invariant.4, c.before.if4.false)
+sub-lacks-2 : tie.Need-overflow_sub-lacks-in-loop-i invariant-loop decreases-loop
+sub-lacks-2 c = omega (arith, c.loop-i.invariant.4, c.if-left-eq0.false)
 
-slice-write-lacks : tie.Need-slice-write-lacks invariant-loop decreases-loop
-slice-write-lacks c = let i = c.before.before.before.before.before in omega (arith, deep i, i.before.loop.invariant.4, i.before.loop.invariant.1, i.loop-test.true)
+slice-write-lacks : tie.Need-bounds-lacks-depth-in-loop-i invariant-loop decreases-loop
+slice-write-lacks c = omega (arith, deep c.before.before.before.before.before, c.loop-i.invariant.4, c.loop-i.invariant.1, c.loop-i-test.true)
 
-children-of-requires : tie.Need-children-of-requires invariant-loop decreases-loop
-children-of-requires c κs = (c.before.before.before.before.before.before.before.before.before.before.requires.fine, c.if5.false)
+children-of-requires : tie.Need-children_of-requires invariant-loop decreases-loop
+children-of-requires c κs = (c.requires.fine, c.if-arities-s.false)
 
-slice-write-lacks-2 : tie.Need-slice-write-lacks-2 invariant-loop decreases-loop
-slice-write-lacks-2 c = let i = c.before.before.before.before.before.before in simp length-set (omega (arith, deep i, i.before.loop.invariant.1, i.loop-test.true))
+slice-write-lacks-2 : tie.Need-bounds-lacks-depth-in-loop-i-2 invariant-loop decreases-loop
+slice-write-lacks-2 c = simp length-set (omega (arith, deep c.before.before.before.before.before.before, c.loop-i.invariant.1, c.loop-i-test.true))
 
-add-depth : tie.Need-overflow-add-depth invariant-loop decreases-loop
+add-depth : tie.Need-overflow_add-depth invariant-loop decreases-loop
 add-depth c = search rules
 
-add-i-2 : tie.Need-overflow-add-i-2 invariant-loop decreases-loop
+add-i-2 : tie.Need-overflow_add-i-in-loop-i invariant-loop decreases-loop
 add-i-2 c = search rules
 
-loop-less-2 : tie.Need-loop-smaller-2 invariant-loop decreases-loop
+loop-less-2 : tie.Need-loop-i-smaller invariant-loop decreases-loop
 loop-less-2 c = search rules
 
-loop-again-2 : tie.Need-loop-preserved-2 invariant-loop decreases-loop
+loop-again-2 : tie.Need-loop-i-preserved invariant-loop decreases-loop
 loop-again-2 c =
-    let i = c.before.before.before.before.before.before in
-    let l = i.before.loop in
-    let lack : 0 < innermost i = omega (arith, c.before.before.if4.false) in
-    let room : l.depth < length l.lacks = omega (arith, deep i, l.invariant.1, i.loop-test.true) in
-    let lowered = set l.lacks (l.depth - 1) (innermost i - 1) in (
+    let t = c.before.before.before.before.before.before in
+    let l = c.loop-i in
+    let lack : 0 < innermost t = omega (arith, c.if-left-eq0.false) in
+    let room : l.depth < length l.lacks = omega (arith, deep t, l.invariant.1, c.loop-i-test.true) in
+    let lowered = set l.lacks (l.depth - 1) (innermost t - 1) in (
       search rules,
       omega (arith, l.invariant.1),
-      length-set lowered l.depth c.children-of.result ∙ length-set l.lacks (l.depth - 1) (innermost i - 1) ∙ l.invariant.2,
-      symbol_opens (A i) (B i) l.lacks l.depth l.i _ l.invariant.3 i.loop-test.true l.invariant.4 lack c.before.before.before.if1.false c.before.if5.false room
-          ∙ ap (λ (n : ℕ). closing (A i) (lacking (set lowered l.depth n) (l.depth + 1)) (l.i + 1) (drop (l.i + 1) (B i))) (sym c.children-of.ensures),
+      length-set lowered l.depth c.children_of.result ∙ length-set l.lacks (l.depth - 1) (innermost t - 1) ∙ l.invariant.2,
+      symbol_opens (A t) (B t) l.lacks l.depth l.i _ l.invariant.3 c.loop-i-test.true l.invariant.4 lack c.if-s.false c.if-arities-s.false room
+          ∙ ap (λ (n : ℕ). closing (A t) (lacking (set lowered l.depth n) (l.depth + 1)) (l.i + 1) (drop (l.i + 1) (B t))) (sym c.children_of.ensures),
       omega arith,
     )
 
-same-length-5 : tie.Need-same-length-5 invariant-loop decreases-loop
+same-length-5 : tie.Need-shape_of-lacks invariant-loop decreases-loop
 same-length-5 c = search rules
 
-returns-5 : tie.Need-returns-5 invariant-loop decreases-loop
+returns-5 : tie.Need-returns invariant-loop decreases-loop
 returns-5 c =
-    let s = c.before.before.before.before.before.args in
-    let l = c.before.loop in
-    sym (end_open s.arities.now s.bars.now l.lacks l.depth l.i _ l.invariant.3 c.loop-test.false l.invariant.4)
+    let s = c.args in
+    let l = c.loop-i in
+    sym (end_open s.arities.now s.bars.now l.lacks l.depth l.i _ l.invariant.3 c.loop-i-test.false l.invariant.4)
 
-pub check-closing-spec : {M : Type 1} → statement M
-check-closing-spec =
+pub check_closing_spec : {M : Type 1} → statement M
+check_closing_spec =
     tie.close
     (tie.spec
     invariant-loop

@@ -5,11 +5,15 @@ use Rattle.bars.proofs.Reading.{all_closed, none_open}
 use Rattle.bars.proofs.reader.check_end.Statement.{statement}
 use Rattle.bars.proofs.reader.check_end.Tie as tie
 
-returns : tie.Need-returns
-returns c A = sym (none_open A _ _ c.if1.true)
+returns : tie.Need-returns-then-i-bars
+returns c A = sym (none_open A _ _ c.if-i-bars.true)
 
-returns-2 : tie.Need-returns-2
-returns-2 c A = sym (all_closed A _ _ c.if1.false)
+returns-2 : tie.Need-returns
+returns-2 c A = sym (all_closed A _ _ c.if-i-bars.false)
 
-pub check-end-spec : {M : Type 1} → statement M
-check-end-spec = tie.close (tie.spec returns returns-2)
+pub check_end_spec : {M : Type 1} → statement M
+check_end_spec =
+    tie.close
+    (tie.spec
+    returns
+    returns-2)

@@ -6,17 +6,23 @@ use borrow.Author.Rules.{rules}
 use Rattle.bars.proofs.rooms.children_of.Statement.{statement}
 use Rattle.bars.proofs.rooms.children_of.Tie as tie
 
-mul-result : tie.Need-overflow-mul-result
+mul-result : tie.Need-offset_bounds-arities-s
 mul-result c = search rules
 
-shared-slice-read-result : tie.Need-shared-slice-read-result
+shared-slice-read-result : tie.Need-bounds-arities-s
 shared-slice-read-result c = search rules
 
-cast-result : tie.Need-overflow-cast-result
-cast-result c = let s = c.before in omega (arith, arities_most s.args.arities.now s.requires.0 s.args.s)
+cast-result : tie.Need-overflow_cast-result-2
+cast-result c = omega (arith, arities_most c.args.arities.now c.requires.0 c.args.s)
 
 returns : tie.Need-returns
 returns c = search rules
 
-pub children-of-spec : {M : Type 1} → statement M
-children-of-spec = tie.close (tie.spec mul-result shared-slice-read-result cast-result returns)
+pub children_of_spec : {M : Type 1} → statement M
+children_of_spec =
+    tie.close
+    (tie.spec
+    mul-result
+    shared-slice-read-result
+    cast-result
+    returns)
