@@ -14,74 +14,68 @@ use borrow.Author.Rules.{rules}
 use Rattle.edits.proofs.move_ends.Statement.{statement}
 use Rattle.edits.proofs.move_ends.Tie as tie
 
-returns : tie.Need-returns
+returns : tie.Need-returns-then-e-to
 returns c =
-    let s = c.before.before in
-    let t = s.args.table.now in
-    let n = s.args.n in
-    let p = s.args.p in
-    let e = s.args.e in
-    let same : e ≡ s.args.to = c.if1.true in
-    let m : Movable t n p e e = subst (λ (x : ℕ). Movable t n p e x) (sym same) s.requires in
+    let t = c.args.table.now in
+    let n = c.args.n in
+    let p = c.args.p in
+    let e = c.args.e in
+    let same : e ≡ c.args.to = c.if-e-to.true in
+    let m : Movable t n p e e = subst (λ (x : ℕ). Movable t n p e x) (sym same) c.requires in
     subst (λ (x : ℕ). t ≡ written (written t 0 (map (moved e x) (take p t))) x (map (shifted e x) (take (n - e) (drop e t)))) same
     (sym (still t n p e m))
 
-sub-rest : tie.Need-overflow-sub-rest
+sub-rest : tie.Need-overflow_sub-rest
 sub-rest c = search rules
 
-cast-move-holders : tie.Need-overflow-cast-move-holders
+cast-move-holders : tie.Need-overflow_cast-e
 cast-move-holders c = search rules
 
-cast-move-holders-2 : tie.Need-overflow-cast-move-holders-2
+cast-move-holders-2 : tie.Need-overflow_cast-to
 cast-move-holders-2 c = search rules
 
-move-holders-requires : tie.Need-move-holders-requires
+move-holders-requires : tie.Need-move_holders-requires
 move-holders-requires c κs = search rules
 
-move-part-requires : tie.Need-move-part-requires
+move-part-requires : tie.Need-move_part-requires
 move-part-requires c κs = search rules
 
-cast-shift : tie.Need-overflow-cast-shift
+cast-shift : tie.Need-overflow_cast-e-2
 cast-shift c = search rules
 
-cast-shift-2 : tie.Need-overflow-cast-shift-2
+cast-shift-2 : tie.Need-overflow_cast-to-2
 cast-shift-2 c = search rules
 
 shift-requires : tie.Need-shift-requires
 shift-requires c κs =
-    let at-move-holders = c.before.before.before.before.before.before.before in
-    let s = c.before.before.before.before.before.before.before.before.before.before.before in
-    let t = s.args.table.now in
-    let n = s.args.n in
-    let p = s.args.p in
-    let e = s.args.e in
-    let to = s.args.to in
+    let t = c.args.table.now in
+    let n = c.args.n in
+    let p = c.args.p in
+    let e = c.args.e in
+    let to = c.args.to in
     rw (
-      c.before.before.before.move-part.ensures,
-      at-move-holders.move-holders.ensures,
-      drop_held t n p e to s.requires,
+      c.move_part.ensures,
+      c.move_holders.ensures,
+      drop_held t n p e to c.requires,
     )
-    (tail_shiftable t n p e to s.requires)
+    (tail_shiftable t n p e to c.requires)
 
-same_length : tie.Need-same-length
+same_length : tie.Need-shape_of-table
 same_length c = search rules
 
-returns-2 : tie.Need-returns-2
+returns-2 : tie.Need-returns
 returns-2 c =
-    let at-move-part = c.before.before.before.before.before.before in
-    let at-move-holders = c.before.before.before.before.before.before.before.before.before.before in
-    let s = c.before.before.before.before.before.before.before.before.before.before.before.before.before.before in
-    let t = s.args.table.now in
+    let t = c.args.table.now in
     rw (
-      c.before.before.shift.ensures,
-      at-move-part.move-part.ensures,
-      at-move-holders.move-holders.ensures,
-      drop_held t s.args.n s.args.p s.args.e s.args.to s.requires,
+      c.shift.ensures,
+      c.move_part.ensures,
+      c.move_holders.ensures,
+      drop_held t c.args.n c.args.p c.args.e c.args.to c.requires,
     )
-    (tail_shifted t s.args.n s.args.p s.args.e s.args.to s.requires)
+    (tail_shifted t c.args.n c.args.p c.args.e c.args.to c.requires)
 
-pub move-ends-spec : {M : Type 1} → statement M
-move-ends-spec =
+pub move_ends_spec : {M : Type 1} → statement M
+move_ends_spec =
     tie.close
     (tie.spec
     returns

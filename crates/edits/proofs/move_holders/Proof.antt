@@ -14,62 +14,59 @@ use borrow.Author.Rules.{rules}
 use Rattle.edits.proofs.move_holders.Statement.{statement}
 use Rattle.edits.proofs.move_holders.Tie as tie
 
-abbrev invariant-loop : tie.invariant-loop
+abbrev invariant-loop : tie.invariant-loop-k
 invariant-loop table₀ p e to k₀ table k =
     (k ≤ p) × (length table ≡ length table₀) × (table ≡ written table₀ 0 (take k (map (moved e to) (take p table₀))))
 
-abbrev decreases-loop : tie.decreases-loop
+abbrev decreases-loop : tie.decreases-loop-k
 decreases-loop table₀ p e to k₀ table k = p - k
 
-loop-holds : tie.Need-loop-init invariant-loop decreases-loop
-loop-holds c = (search rules, search rules, sym (written_nil c.before.args.table.now 0))
+loop-holds : tie.Need-loop-k-init invariant-loop decreases-loop
+loop-holds c = (search rules, search rules, sym (written_nil c.args.table.now 0))
 
-mul-moved-end : tie.Need-overflow-mul-moved-end invariant-loop decreases-loop
+mul-moved-end : tie.Need-offset_bounds-table-k invariant-loop decreases-loop
 mul-moved-end c = search rules
 
-slice-read-moved-end : tie.Need-slice-read-moved-end invariant-loop decreases-loop
+slice-read-moved-end : tie.Need-bounds-table-k invariant-loop decreases-loop
 slice-read-moved-end c = search rules
 
-moved-end-requires : tie.Need-moved-end-requires invariant-loop decreases-loop
+moved-end-requires : tie.Need-moved_end-requires invariant-loop decreases-loop
 moved-end-requires c κs =
-    let s = c.before.before.before.before in
-    let l = c.before.before.loop in
-    turn_fits s.args.table.now s.requires.0 s.args.p s.args.e s.args.to s.requires.1 l.table l.k l.invariant.2 (omega arith)
+    let l = c.loop-k in
+    turn_fits c.args.table.now c.requires.0 c.args.p c.args.e c.args.to c.requires.1 l.table l.k l.invariant.2 (omega arith)
 
-mul-table : tie.Need-overflow-mul-table invariant-loop decreases-loop
+mul-table : tie.Need-offset_bounds-table-k-in-loop-k invariant-loop decreases-loop
 mul-table c = search rules
 
-slice-write-table : tie.Need-slice-write-table invariant-loop decreases-loop
+slice-write-table : tie.Need-bounds-table-k-in-loop-k invariant-loop decreases-loop
 slice-write-table c = search rules
 
-add-k : tie.Need-overflow-add-k invariant-loop decreases-loop
+add-k : tie.Need-overflow_add-k invariant-loop decreases-loop
 add-k c = search rules
 
-loop-less : tie.Need-loop-smaller invariant-loop decreases-loop
+loop-less : tie.Need-loop-k-smaller invariant-loop decreases-loop
 loop-less c = search rules
 
-loop-again : tie.Need-loop-preserved invariant-loop decreases-loop
+loop-again : tie.Need-loop-k-preserved invariant-loop decreases-loop
 loop-again c =
-    let s = c.before.before.before.before.before in
-    let l = c.before.before.before.loop in (
+    let l = c.loop-k in (
       search rules,
       search rules,
-      turn_leaves s.args.table.now s.requires.0 s.args.p s.args.e s.args.to s.requires.1 l.table l.k l.invariant.2 (omega arith) c.moved-end.result c.moved-end.ensures,
+      turn_leaves c.args.table.now c.requires.0 c.args.p c.args.e c.args.to c.requires.1 l.table l.k l.invariant.2 (omega arith) c.moved_end.result c.moved_end.ensures,
     )
 
-same_length : tie.Need-same-length invariant-loop decreases-loop
+same_length : tie.Need-shape_of-table invariant-loop decreases-loop
 same_length c = search rules
 
 returns : tie.Need-returns invariant-loop decreases-loop
 returns c =
-    let s = c.before.before.before in
-    let l = c.before.loop in
-    let t = s.args.table.now in
-    let long = length_before t s.requires.0 s.args.p s.args.e s.args.to s.requires.1 in
-    l.invariant.2 ∙ ap (written t 0) (take_all l.k (map (moved s.args.e s.args.to) (take s.args.p t)) (omega arith))
+    let l = c.loop-k in
+    let t = c.args.table.now in
+    let long = length_before t c.requires.0 c.args.p c.args.e c.args.to c.requires.1 in
+    l.invariant.2 ∙ ap (written t 0) (take_all l.k (map (moved c.args.e c.args.to) (take c.args.p t)) (omega arith))
 
-pub move-holders-spec : {M : Type 1} → statement M
-move-holders-spec =
+pub move_holders_spec : {M : Type 1} → statement M
+move_holders_spec =
     tie.close
     (tie.spec
     invariant-loop

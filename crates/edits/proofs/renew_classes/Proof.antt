@@ -17,31 +17,30 @@ use Rattle.edits.proofs.renew_classes.Tie as tie
 long : (s : tie.Start) → length (take s.args.m s.args.row.now) ≡ s.args.m
 long s = length-take-le s.args.m s.args.row.now s.requires.1
 
-slice-aggregate-fill-beside : tie.Need-slice-aggregate-fill-beside
-slice-aggregate-fill-beside c = sym (long c.before.before.before.before.before)
+slice-aggregate-fill-beside : tie.Need-slice_bounds-fill_beside-end
+slice-aggregate-fill-beside c = sym (long c.before.before.before.before)
 
-fill-beside-requires : tie.Need-fill-beside-requires
-fill-beside-requires c κs = let s = c.before.before.before.before.before.before.before in (s.requires.0, (omega (arith, long s, s.requires.2), s.requires.4))
+fill-beside-requires : tie.Need-fill_beside-requires
+fill-beside-requires c κs = (c.requires.0, (omega (arith, long c.before.before.before.before.before.before, c.requires.2), c.requires.4))
 
 fill-requires : tie.Need-fill-requires
 fill-requires c κs = search rules
 
-same_length : tie.Need-same-length
+same_length : tie.Need-shape_of-classes
 same_length c = search rules
 
-same-length-2 : tie.Need-same-length-2
+same-length-2 : tie.Need-shape_of-room
 same-length-2 c = search rules
 
 returns : tie.Need-returns
 returns c A r =
-    let s = c.before.before.before.before.before.before.before.before.before.before.before.before.before.before.before.before in
-    let g = s.args in
-    c.before.before.fill.ensures
-    ∙ ap (λ (l : List ℕ). written l g.m (replicate (g.n - g.m) 0)) (c.before.before.before.before.before.before.before.before.fill-beside.ensures A r)
-    ∙ renewed_whole g.classes.now g.n 0 g.m _ ((class_of_row A (take g.m g.row.now)).0 ∙ long s) s.requires.3 s.requires.2
+    let g = c.args in
+    c.fill.ensures
+    ∙ ap (λ (l : List ℕ). written l g.m (replicate (g.n - g.m) 0)) (c.fill_beside.ensures A r)
+    ∙ renewed_whole g.classes.now g.n 0 g.m _ ((class_of_row A (take g.m g.row.now)).0 ∙ long c.before.before.before.before.before.before.before.before.before.before.before.before.before.before.before) c.requires.3 c.requires.2
 
-pub renew-classes-spec : {M : Type 1} → statement M
-renew-classes-spec =
+pub renew_classes_spec : {M : Type 1} → statement M
+renew_classes_spec =
     tie.close
     (tie.spec
     slice-aggregate-fill-beside

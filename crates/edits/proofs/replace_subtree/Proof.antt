@@ -7,62 +7,55 @@ use borrow.Author.Rules.{rules}
 use Rattle.edits.proofs.replace_subtree.Statement.{statement}
 use Rattle.edits.proofs.replace_subtree.Tie as tie
 
-mul-e : tie.Need-overflow-mul-e
+mul-e : tie.Need-offset_bounds-table-p
 mul-e c = search rules
 
-slice-read-e : tie.Need-slice-read-e
+slice-read-e : tie.Need-bounds-table-p
 slice-read-e c =
-    let s = c.before.before.before.before.before.before in
-    entry_in s.args.arities.now s.args.row.now s.args.table.now s.args.n s.args.v.now s.args.p s.requires.0
+    entry_in c.args.arities.now c.args.row.now c.args.table.now c.args.n c.args.v.now c.args.p c.requires.0
 
-cast-e : tie.Need-overflow-cast-e
-cast-e c = omega (arith, c.slice-known4.given c.before.before.before.before.before.before.args.p)
+cast-e : tie.Need-overflow_cast-e
+cast-e c = omega (arith, c.slice_known-4-1.given c.args.p)
 
-replace-symbols-requires : tie.Need-replace-symbols-requires
+replace-symbols-requires : tie.Need-replace_symbols-requires
 replace-symbols-requires c κs =
-    let s = c.before.before.before.before.before.before.before in
-    row_room s.args.arities.now s.args.row.now s.args.table.now s.args.n s.args.v.now s.args.p s.requires.0
+    row_room c.args.arities.now c.args.row.now c.args.table.now c.args.n c.args.v.now c.args.p c.requires.0
 
-replace-ends-requires : tie.Need-replace-ends-requires
+replace-ends-requires : tie.Need-replace_ends-requires
 replace-ends-requires c κs =
-    let s = c.before.before.before.before.before.before.before.before.before.before.before.before in
-    ((table_movable s.args.arities.now s.args.row.now s.args.table.now s.args.n s.args.v.now s.args.p s.requires.0, s.requires.1), s.requires.0.accepted)
+    ((table_movable c.args.arities.now c.args.row.now c.args.table.now c.args.n c.args.v.now c.args.p c.requires.0, c.requires.1), c.requires.0.accepted)
 
-add-result : tie.Need-overflow-add-result
+add-result : tie.Need-overflow_add-result
 add-result c = search rules
 
-sub-result : tie.Need-overflow-sub-result
+sub-result : tie.Need-overflow_sub-result
 sub-result c =
-    let s = c.before.before.before.before.before.before.before.before.before.before.before.before.before.before.before.before.before in
-    (bounds s.args.arities.now s.args.row.now s.args.table.now s.args.n s.args.v.now s.args.p s.requires.0 s.args.p s.requires.0.position).1
+    (bounds c.args.arities.now c.args.row.now c.args.table.now c.args.n c.args.v.now c.args.p c.requires.0 c.args.p c.requires.0.position).1
 
-add-result-2 : tie.Need-overflow-add-result-2
+add-result-2 : tie.Need-overflow_add-result-2
 add-result-2 c =
-    let s = c.before.before.before.before.before.before.before.before.before.before.before.before.before.before.before.before.before in
     record {
-      fits = omega (arith, length_new s.args.arities.now s.args.row.now s.args.table.now s.args.n s.args.v.now s.args.p s.requires.0, s.requires.0.most);
+      fits = omega (arith, length_new c.args.arities.now c.args.row.now c.args.table.now c.args.n c.args.v.now c.args.p c.requires.0, c.requires.0.most);
     }
 
-same_length : tie.Need-same-length
+same_length : tie.Need-shape_of-row
 same_length c = search rules
 
-same-length-2 : tie.Need-same-length-2
+same-length-2 : tie.Need-shape_of-table
 same-length-2 c = search rules
 
-same-length-3 : tie.Need-same-length-3
+same-length-3 : tie.Need-shape_of-standing
 same-length-3 c = search rules
 
 returns : tie.Need-returns
 returns c =
-    let at-replace-symbols = c.before.before.before.before.before.before.before.before.before in
-    let s = c.before.before.before.before.before.before.before.before.before.before.before.before.before.before.before.before.before in
-    replaced s.args.arities.now s.args.row.now s.args.table.now s.args.n s.args.v.now s.args.p s.requires.0 _ _ _
-    at-replace-symbols.replace-symbols.ensures
-    c.before.before.before.before.replace-ends.ensures
+    replaced c.args.arities.now c.args.row.now c.args.table.now c.args.n c.args.v.now c.args.p c.requires.0 _ _ _
+    c.replace_symbols.ensures
+    c.replace_ends.ensures
     refl
 
-pub replace-subtree-spec : {M : Type 1} → statement M
-replace-subtree-spec =
+pub replace_subtree_spec : {M : Type 1} → statement M
+replace_subtree_spec =
     tie.close
     (tie.spec
     mul-e
