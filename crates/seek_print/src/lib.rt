@@ -36,6 +36,7 @@ pub fn put_count(out: &mut [u8], at: usize, count: usize) -> usize
 }
 
 // ` V:B-E`, for a variable that the pattern has; nothing for one that it lacks.
+#[tactic(auto, using(decimal::proofs::Writing::printed_none), unfolding(crate::specs::Print::span_text))]
 fn put_span(out: &mut [u8], at: usize, variable: usize, begin: u16, end: u16) -> usize
     requires { at + span_most ≤ length out.old }
     ensures { Printed out.old at (span_text variable begin end) result out.new × (result ≤ at + span_most) }
