@@ -3,54 +3,55 @@
 use script::{count, list, list_at, number, number_at, pair, text};
 use sparrowhem::{Bound, Check, Fits, Found, Newest, Placed, Refusal};
 use std::io;
+use std::io::Write;
 
 // build ARITIES | ROW | PLACES | PLACES: those of the table, those of the classes.
-pub fn build(rt: &impl Print, case: &[u16], classes: &mut [u16]) -> io::Result<()> {
+pub fn build(to: &mut impl Write, case: &[u16], classes: &mut [u16]) -> io::Result<()> {
     let mut table = script::unset_places();
     let n = script::places(list_at(case, 2));
-    build_in(rt, case, &mut table[..n], classes)
+    build_in(to, case, &mut table[..n], classes)
 }
 
 fn build_in(
-    rt: &impl Print,
+    to: &mut impl Write,
     case: &[u16],
     table: &mut [u16],
     classes: &mut [u16],
 ) -> io::Result<()> {
     checked(
-        rt,
+        to,
         sparrowhem::build(list_at(case, 0), list_at(case, 1), table, classes),
     )?;
-    list(rt, table)?;
-    list(rt, classes)
+    list(to, table)?;
+    list(to, classes)
 }
 
 // `refused`, number and place.
-pub fn refusal(rt: &impl Print, r: Refusal) -> io::Result<()> {
+pub fn refusal(to: &mut impl Write, r: Refusal) -> io::Result<()> {
     pair(
-        rt,
+        to,
         b"refused",
         sparrowhem::number_of(r),
         sparrowhem::place_of(r),
     )
 }
 
-fn checked(rt: &impl Print, answer: Check) -> io::Result<()> {
+fn checked(to: &mut impl Write, answer: Check) -> io::Result<()> {
     match answer {
-        Check::Fine => text(rt, b"fine\n"),
-        Check::Refused(r) => refusal(rt, r),
+        Check::Fine => text(to, b"fine\n"),
+        Check::Refused(r) => refusal(to, r),
     }
 }
 
 // subtree ARITIES | ROW | TABLE | CLASSES | POSITION
-pub fn subtree(rt: &impl Print, case: &[u16]) -> io::Result<()> {
-    subtree_answer(rt, case)?;
-    subtree_part(rt, case)
+pub fn subtree(to: &mut impl Write, case: &[u16]) -> io::Result<()> {
+    subtree_answer(to, case)?;
+    subtree_part(to, case)
 }
 
-fn subtree_answer(rt: &impl Print, case: &[u16]) -> io::Result<()> {
+fn subtree_answer(to: &mut impl Write, case: &[u16]) -> io::Result<()> {
     placed(
-        rt,
+        to,
         sparrowhem::subtree_answer(
             list_at(case, 0),
             list_at(case, 1),
@@ -61,9 +62,9 @@ fn subtree_answer(rt: &impl Print, case: &[u16]) -> io::Result<()> {
     )
 }
 
-fn subtree_part(rt: &impl Print, case: &[u16]) -> io::Result<()> {
+fn subtree_part(to: &mut impl Write, case: &[u16]) -> io::Result<()> {
     list(
-        rt,
+        to,
         sparrowhem::subtree(
             list_at(case, 0),
             list_at(case, 1),
@@ -74,17 +75,17 @@ fn subtree_part(rt: &impl Print, case: &[u16]) -> io::Result<()> {
     )
 }
 
-fn placed(rt: &impl Print, answer: Placed) -> io::Result<()> {
+fn placed(to: &mut impl Write, answer: Placed) -> io::Result<()> {
     match answer {
-        Placed::Refused(r) => refusal(rt, r),
-        Placed::Span(begin, end) => pair(rt, b"span", begin, end),
+        Placed::Refused(r) => refusal(to, r),
+        Placed::Span(begin, end) => pair(to, b"span", begin, end),
     }
 }
 
 // find ARITIES | ROW | TABLE | CLASSES | PATTERN | PLACES
-pub fn find(rt: &impl Print, case: &[u16], out: &mut [u16]) -> io::Result<()> {
+pub fn find(to: &mut impl Write, case: &[u16], out: &mut [u16]) -> io::Result<()> {
     found(
-        rt,
+        to,
         sparrowhem::find(
             list_at(case, 0),
             list_at(case, 1),
@@ -94,20 +95,20 @@ pub fn find(rt: &impl Print, case: &[u16], out: &mut [u16]) -> io::Result<()> {
             out,
         ),
     )?;
-    list(rt, out)
+    list(to, out)
 }
 
-pub fn found(rt: &impl Print, answer: Found) -> io::Result<()> {
+pub fn found(to: &mut impl Write, answer: Found) -> io::Result<()> {
     match answer {
-        Found::Refused(r) => refusal(rt, r),
-        Found::Matches(n) => count(rt, b"matches", n),
+        Found::Refused(r) => refusal(to, r),
+        Found::Matches(n) => count(to, b"matches", n),
     }
 }
 
 // variables ARITIES | ROW | TABLE | CLASSES | PATTERN | POSITION | PLACES
-pub fn variables(rt: &impl Print, case: &[u16], out: &mut [u16]) -> io::Result<()> {
+pub fn variables(to: &mut impl Write, case: &[u16], out: &mut [u16]) -> io::Result<()> {
     bound(
-        rt,
+        to,
         sparrowhem::variables(
             list_at(case, 0),
             list_at(case, 1),
@@ -118,26 +119,26 @@ pub fn variables(rt: &impl Print, case: &[u16], out: &mut [u16]) -> io::Result<(
             out,
         ),
     )?;
-    list(rt, out)
+    list(to, out)
 }
 
-fn bound(rt: &impl Print, answer: Bound) -> io::Result<()> {
+fn bound(to: &mut impl Write, answer: Bound) -> io::Result<()> {
     match answer {
-        Bound::Refused(r) => refusal(rt, r),
-        Bound::Matched => text(rt, b"matched\n"),
-        Bound::Unmatched => text(rt, b"unmatched\n"),
+        Bound::Refused(r) => refusal(to, r),
+        Bound::Matched => text(to, b"matched\n"),
+        Bound::Unmatched => text(to, b"unmatched\n"),
     }
 }
 
 // newer ARITIES | CORRECTED | TABLE | CLASSES | RECORD | TABLE | CLASSES | PATTERN
-pub fn newer(rt: &impl Print, case: &[u16]) -> io::Result<()> {
-    newer_answer(rt, case)?;
-    newer_part(rt, case)
+pub fn newer(to: &mut impl Write, case: &[u16]) -> io::Result<()> {
+    newer_answer(to, case)?;
+    newer_part(to, case)
 }
 
-fn newer_answer(rt: &impl Print, case: &[u16]) -> io::Result<()> {
+fn newer_answer(to: &mut impl Write, case: &[u16]) -> io::Result<()> {
     newest(
-        rt,
+        to,
         sparrowhem::newer_answer(
             list_at(case, 0),
             list_at(case, 1),
@@ -151,9 +152,9 @@ fn newer_answer(rt: &impl Print, case: &[u16]) -> io::Result<()> {
     )
 }
 
-fn newer_part(rt: &impl Print, case: &[u16]) -> io::Result<()> {
+fn newer_part(to: &mut impl Write, case: &[u16]) -> io::Result<()> {
     list(
-        rt,
+        to,
         sparrowhem::newer(
             list_at(case, 0),
             list_at(case, 1),
@@ -167,19 +168,19 @@ fn newer_part(rt: &impl Print, case: &[u16]) -> io::Result<()> {
     )
 }
 
-fn newest(rt: &impl Print, answer: Newest) -> io::Result<()> {
+fn newest(to: &mut impl Write, answer: Newest) -> io::Result<()> {
     match answer {
-        Newest::Corrected(begin, end) => pair(rt, b"corrected", begin, end),
-        Newest::OnRecord(begin, end) => pair(rt, b"recorded", begin, end),
-        Newest::Nowhere => text(rt, b"nowhere\n"),
-        Newest::Refused(r) => refusal(rt, r),
+        Newest::Corrected(begin, end) => pair(to, b"corrected", begin, end),
+        Newest::OnRecord(begin, end) => pair(to, b"recorded", begin, end),
+        Newest::Nowhere => text(to, b"nowhere\n"),
+        Newest::Refused(r) => refusal(to, r),
     }
 }
 
 // plain ARITIES | ROW | PATTERN | POSITION
-pub fn plain(rt: &impl Print, case: &[u16]) -> io::Result<()> {
+pub fn plain(to: &mut impl Write, case: &[u16]) -> io::Result<()> {
     fits(
-        rt,
+        to,
         sparrowhem::plain_match(
             list_at(case, 0),
             list_at(case, 1),
@@ -189,24 +190,29 @@ pub fn plain(rt: &impl Print, case: &[u16]) -> io::Result<()> {
     )
 }
 
-fn fits(rt: &impl Print, answer: Fits) -> io::Result<()> {
+fn fits(to: &mut impl Write, answer: Fits) -> io::Result<()> {
     match answer {
-        Fits::Yes => text(rt, b"yes\n"),
-        Fits::No => text(rt, b"no\n"),
-        Fits::Refused(r) => refusal(rt, r),
+        Fits::Yes => text(to, b"yes\n"),
+        Fits::No => text(to, b"no\n"),
+        Fits::Refused(r) => refusal(to, r),
     }
 }
 
 // each ARITIES | ROW | PATTERN: the positions where the plain matcher says yes.
-pub fn each(rt: &impl Print, case: &[u16]) -> io::Result<()> {
-    each_position(rt, list_at(case, 0), list_at(case, 1), list_at(case, 2))
+pub fn each(to: &mut impl Write, case: &[u16]) -> io::Result<()> {
+    each_position(to, list_at(case, 0), list_at(case, 1), list_at(case, 2))
 }
 
-fn each_position(rt: &impl Print, arities: &[u16], row: &[u16], pattern: &[u16]) -> io::Result<()> {
+fn each_position(
+    to: &mut impl Write,
+    arities: &[u16],
+    row: &[u16],
+    pattern: &[u16],
+) -> io::Result<()> {
     for p in 0..row.len() {
         if let Fits::Yes = sparrowhem::plain_match(arities, row, pattern, p) {
-            number(rt, p)?;
+            number(to, p)?;
         }
     }
-    text(rt, b"\n")
+    text(to, b"\n")
 }

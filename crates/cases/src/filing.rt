@@ -6,6 +6,7 @@ use crate::calling::refusal;
 use script::{count, list, list_at, number, number_at, text};
 use sparrowhem::{Entry, Filed, Refusal, Taken};
 use std::io;
+use std::io::Write;
 
 // What a byte holds that no call has written: the low byte of what a place of numbers holds.
 const UNSET: u8 = 190;
@@ -33,88 +34,88 @@ fn narrow(numbers: &[u16], room: &mut [u8]) -> usize
 }
 
 // file ARITIES | NUMBERS | LENGTHS | ROWS | PLACES: there is room for more numbers and lengths than a catalogue may have.
-pub fn file(rt: &impl Print, case: &[u16]) -> io::Result<()> {
+pub fn file(to: &mut impl Write, case: &[u16]) -> io::Result<()> {
     let mut numbers = [0u32; 300];
     let n = widen(list_at(case, 1), &mut numbers);
     let mut lengths = [0u32; 300];
     let m = widen(list_at(case, 2), &mut lengths);
-    file_of(rt, case, &numbers[..n], &lengths[..m])
+    file_of(to, case, &numbers[..n], &lengths[..m])
 }
 
-fn file_of(rt: &impl Print, case: &[u16], numbers: &[u32], lengths: &[u32]) -> io::Result<()> {
+fn file_of(to: &mut impl Write, case: &[u16], numbers: &[u32], lengths: &[u32]) -> io::Result<()> {
     let mut file = [UNSET; 65536];
     let n = rows::shorter(number_at(case, 4), 65536);
-    file_in(rt, case, numbers, lengths, &mut file[..n])
+    file_in(to, case, numbers, lengths, &mut file[..n])
 }
 
 fn file_in(
-    rt: &impl Print,
+    to: &mut impl Write,
     case: &[u16],
     numbers: &[u32],
     lengths: &[u32],
     file: &mut [u8],
 ) -> io::Result<()> {
     filed(
-        rt,
+        to,
         sparrowhem::write_catalogue(list_at(case, 0), numbers, lengths, list_at(case, 3), file),
     )?;
-    bytes_or_end(rt, file)
+    bytes_or_end(to, file)
 }
 
-fn filed(rt: &impl Print, answer: Filed) -> io::Result<()> {
+fn filed(to: &mut impl Write, answer: Filed) -> io::Result<()> {
     match answer {
-        Filed::Refused(r) => refused(rt, r),
-        Filed::Bytes(n) => count(rt, b"bytes", n),
+        Filed::Refused(r) => refused(to, r),
+        Filed::Bytes(n) => count(to, b"bytes", n),
     }
 }
 
 // `refused`, number and place, and the programme's number where it is not 0.
-fn refused(rt: &impl Print, r: Refusal) -> io::Result<()> {
+fn refused(to: &mut impl Write, r: Refusal) -> io::Result<()> {
     let programme = sparrowhem::programme_of(r) as usize;
     if programme == 0 {
-        refusal(rt, r)
+        refusal(to, r)
     } else {
-        text(rt, b"refused")?;
-        number(rt, sparrowhem::number_of(r))?;
-        number(rt, sparrowhem::place_of(r))?;
-        count(rt, b", programme", programme)
+        text(to, b"refused")?;
+        number(to, sparrowhem::number_of(r))?;
+        number(to, sparrowhem::place_of(r))?;
+        count(to, b", programme", programme)
     }
 }
 
 // A file's bytes; of a hundred or more, the last nine.
-fn bytes_or_end(rt: &impl Print, xs: &[u8]) -> io::Result<()> {
+fn bytes_or_end(to: &mut impl Write, xs: &[u8]) -> io::Result<()> {
     let n = xs.len();
     if n < 100 {
-        bytes(rt, xs)
+        bytes(to, xs)
     } else {
-        bytes(rt, &xs[n - 9..])
+        bytes(to, &xs[n - 9..])
     }
 }
 
-fn bytes(rt: &impl Print, xs: &[u8]) -> io::Result<()> {
+fn bytes(to: &mut impl Write, xs: &[u8]) -> io::Result<()> {
     for i in 0..xs.len() {
-        number(rt, xs[i] as usize)?;
+        number(to, xs[i] as usize)?;
     }
-    text(rt, b"\n")
+    text(to, b"\n")
 }
 
 // symbols BYTES | PLACES
-pub fn symbols(rt: &impl Print, case: &[u16], arities: &mut [u16]) -> io::Result<()> {
+pub fn symbols(to: &mut impl Write, case: &[u16], arities: &mut [u16]) -> io::Result<()> {
     let mut file = [0u8; 65536];
     let n = narrow(list_at(case, 0), &mut file);
-    taken(rt, sparrowhem::catalogue_alphabet(&file[..n], arities))?;
-    list(rt, arities)
+    taken(to, sparrowhem::catalogue_alphabet(&file[..n], arities))?;
+    list(to, arities)
 }
 
 // entry BYTES | START LENGTH | PLACES
-pub fn entry(rt: &impl Print, case: &[u16], row: &mut [u16]) -> io::Result<()> {
+pub fn entry(to: &mut impl Write, case: &[u16], row: &mut [u16]) -> io::Result<()> {
     let mut file = [0u8; 65536];
     let n = narrow(list_at(case, 0), &mut file);
     taken(
-        rt,
+        to,
         sparrowhem::catalogue_row(&file[..n], told(list_at(case, 1)), row),
     )?;
-    list(rt, row)
+    list(to, row)
 }
 
 // The entry whose start and length a list has. A row is reached without its programme's number.
@@ -131,9 +132,9 @@ fn at(numbers: &[u16], i: usize) -> u16 {
     if i < numbers.len() { numbers[i] } else { 0 }
 }
 
-fn taken(rt: &impl Print, answer: Taken) -> io::Result<()> {
+fn taken(to: &mut impl Write, answer: Taken) -> io::Result<()> {
     match answer {
-        Taken::Refused(r) => refusal(rt, r),
-        Taken::Numbers(n) => count(rt, b"numbers", n),
+        Taken::Refused(r) => refusal(to, r),
+        Taken::Numbers(n) => count(to, b"numbers", n),
     }
 }

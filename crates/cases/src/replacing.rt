@@ -7,35 +7,36 @@ use crate::calling::{found, refusal};
 use script::{copy, digits, list, list_at, number, number_at, room, text};
 use sparrowhem::Replaced;
 use std::io;
+use std::io::Write;
 
-pub fn replace(rt: &impl Print, case: &[u16]) -> io::Result<()> {
+pub fn replace(to: &mut impl Write, case: &[u16]) -> io::Result<()> {
     let mut row = room();
     let r = copy(list_at(case, 1), &mut row, 0);
     let mut table = room();
     let t = copy(list_at(case, 2), &mut table, 0);
     let mut classes = room();
     let c = copy(list_at(case, 3), &mut classes, 0);
-    replace_in(rt, case, &mut row[..r], &mut table[..t], &mut classes[..c])
+    replace_in(to, case, &mut row[..r], &mut table[..t], &mut classes[..c])
 }
 
 fn replace_in(
-    rt: &impl Print,
+    to: &mut impl Write,
     case: &[u16],
     row: &mut [u16],
     table: &mut [u16],
     classes: &mut [u16],
 ) -> io::Result<()> {
-    edit(rt, case, 4, row, table, classes)?;
-    edit(rt, case, 8, row, table, classes)?;
-    edit(rt, case, 12, row, table, classes)?;
-    list(rt, row)?;
-    list(rt, table)?;
-    list(rt, classes)
+    edit(to, case, 4, row, table, classes)?;
+    edit(to, case, 8, row, table, classes)?;
+    edit(to, case, 12, row, table, classes)?;
+    list(to, row)?;
+    list(to, table)?;
+    list(to, classes)
 }
 
 // The edit whose length is list number `first`, if the case has it.
 fn edit(
-    rt: &impl Print,
+    to: &mut impl Write,
     case: &[u16],
     first: usize,
     row: &mut [u16],
@@ -45,9 +46,9 @@ fn edit(
     requires { first ≤ 99 }
 {
     if 0 < list_at(case, first).len() {
-        put(rt, case, first, row, table, classes)?;
+        put(to, case, first, row, table, classes)?;
         seek(
-            rt,
+            to,
             list_at(case, 0),
             row,
             table,
@@ -60,7 +61,7 @@ fn edit(
 
 // The call itself. The lists from number `first` on are its row length, replacement and position.
 fn put(
-    rt: &impl Print,
+    to: &mut impl Write,
     case: &[u16],
     first: usize,
     row: &mut [u16],
@@ -71,7 +72,7 @@ fn put(
 {
     let length = number_at(case, first);
     replaced(
-        rt,
+        to,
         sparrowhem::replace(
             list_at(case, 0),
             row,
@@ -87,7 +88,7 @@ fn put(
 
 // A search of the row's whole buffer, with an output of ten places.
 fn seek(
-    rt: &impl Print,
+    to: &mut impl Write,
     arities: &[u16],
     row: &[u16],
     table: &[u16],
@@ -97,36 +98,36 @@ fn seek(
     if 0 < pattern.len() {
         let mut out = [script::UNSET; 10];
         found(
-            rt,
+            to,
             sparrowhem::find(arities, row, table, classes, pattern, &mut out),
         )?;
-        list(rt, &out)?;
+        list(to, &out)?;
     }
     Ok(())
 }
 
-fn replaced(rt: &impl Print, answer: Replaced, old: usize) -> io::Result<()> {
+fn replaced(to: &mut impl Write, answer: Replaced, old: usize) -> io::Result<()> {
     match answer {
-        Replaced::Refused(r) => refusal(rt, r),
+        Replaced::Refused(r) => refusal(to, r),
         Replaced::Done(new, by) => {
-            text(rt, b"length")?;
-            number(rt, new)?;
-            changed(rt, by, new, old)
+            text(to, b"length")?;
+            number(to, new)?;
+            changed(to, by, new, old)
         }
     }
 }
 
 // The change in length: by how many numbers the row gains or loses.
-fn changed(rt: &impl Print, by: i32, new: usize, old: usize) -> io::Result<()> {
+fn changed(to: &mut impl Write, by: i32, new: usize, old: usize) -> io::Result<()> {
     if new < old {
-        change(rt, b", change -", by, 0, old - new)
+        change(to, b", change -", by, 0, old - new)
     } else {
-        change(rt, b", change ", by, new - old, 0)
+        change(to, b", change ", by, new - old, 0)
     }
 }
 
 // It is printed if the call answers just this one. No row gains or loses more than 16,384 numbers.
-fn change(rt: &impl Print, words: &[u8], by: i32, gain: usize, loss: usize) -> io::Result<()> {
+fn change(to: &mut impl Write, words: &[u8], by: i32, gain: usize, loss: usize) -> io::Result<()> {
     if 16384 < gain {
         return Ok(());
     }
@@ -134,8 +135,8 @@ fn change(rt: &impl Print, words: &[u8], by: i32, gain: usize, loss: usize) -> i
         return Ok(());
     }
     if by == edits::change(gain, loss) {
-        text(rt, words)?;
-        digits(rt, gain + loss)?;
+        text(to, words)?;
+        digits(to, gain + loss)?;
     }
-    text(rt, b"\n")
+    text(to, b"\n")
 }

@@ -3,21 +3,22 @@ use crate::calling::refusal;
 use script::{count, list, list_at, number, number_at, text};
 use sparrowhem::SheetFound;
 use std::io;
+use std::io::Write;
 
-pub fn sheet(rt: &impl Print, case: &[u16], results: &mut [u16]) -> io::Result<()> {
+pub fn sheet(to: &mut impl Write, case: &[u16], results: &mut [u16]) -> io::Result<()> {
     let mut positions = [script::UNSET; 65536];
     let n = rows::shorter(number_at(case, 6), 65536);
-    sheet_in(rt, case, &mut positions[..n], results)
+    sheet_in(to, case, &mut positions[..n], results)
 }
 
 fn sheet_in(
-    rt: &impl Print,
+    to: &mut impl Write,
     case: &[u16],
     positions: &mut [u16],
     results: &mut [u16],
 ) -> io::Result<()> {
     answered(
-        rt,
+        to,
         sparrowhem::sheet(
             list_at(case, 0),
             list_at(case, 1),
@@ -29,27 +30,27 @@ fn sheet_in(
             results,
         ),
     )?;
-    list_or_end(rt, positions)?;
-    list_or_end(rt, results)
+    list_or_end(to, positions)?;
+    list_or_end(to, results)
 }
 
-fn answered(rt: &impl Print, answer: SheetFound) -> io::Result<()> {
+fn answered(to: &mut impl Write, answer: SheetFound) -> io::Result<()> {
     match answer {
-        SheetFound::Refused(r) => refusal(rt, r),
+        SheetFound::Refused(r) => refusal(to, r),
         SheetFound::Matches(patterns, n) => {
-            text(rt, b"patterns")?;
-            number(rt, patterns)?;
-            count(rt, b" matches", n)
+            text(to, b"patterns")?;
+            number(to, patterns)?;
+            count(to, b" matches", n)
         }
     }
 }
 
 // A list; of one of a hundred or more, its last nine numbers.
-fn list_or_end(rt: &impl Print, xs: &[u16]) -> io::Result<()> {
+fn list_or_end(to: &mut impl Write, xs: &[u16]) -> io::Result<()> {
     let n = xs.len();
     if n < 100 {
-        list(rt, xs)
+        list(to, xs)
     } else {
-        list(rt, &xs[n - 9..])
+        list(to, &xs[n - 9..])
     }
 }

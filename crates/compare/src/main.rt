@@ -10,6 +10,7 @@ ghost use Rattle.std.specs.Prelude.{◌≡◌, ◌≤◌, length};
 use script::{count, list_at, number, text, title};
 use sparrowhem::{Check, Fits, Found, Refusal, SheetFound};
 use std::io;
+use std::io::Write;
 
 // How many patterns there are.
 const PATTERNS: usize = 14;
@@ -316,31 +317,32 @@ fn all_lists(case: &[u16]) -> Tally {
     sum
 }
 
-fn compare(rt: &impl Print, case: &[u16]) -> io::Result<()> {
+fn compare(to: &mut impl Write, case: &[u16]) -> io::Result<()> {
     let all = all_lists(case);
-    text(rt, b"positions")?;
-    number(rt, all.positions)?;
-    text(rt, b" matches")?;
-    number(rt, all.matches)?;
-    text(rt, b" refused")?;
-    number(rt, all.refused)?;
-    text(rt, b" classes")?;
-    number(rt, all.classes)?;
-    count(rt, b" apart", all.apart)
+    text(to, b"positions")?;
+    number(to, all.positions)?;
+    text(to, b" matches")?;
+    number(to, all.matches)?;
+    text(to, b" refused")?;
+    number(to, all.refused)?;
+    text(to, b" classes")?;
+    number(to, all.classes)?;
+    count(to, b" apart", all.apart)
 }
 
-fn read(rt: &impl Print, line: &[u8]) -> io::Result<()> {
+fn read(to: &mut impl Write, line: &[u8]) -> io::Result<()> {
     let mut numbers = script::room();
     let n = script::read(line, &mut numbers);
-    compare(rt, &numbers[..n])
+    compare(to, &numbers[..n])
 }
 
 fn main(rt: HostRuntime) -> io::Result<()> {
+    let mut out = rt.stdout();
     title(
-        &rt,
+        &mut out,
         b"plain against find and a sheet, classes against equal subtrees: lists of one to four numbers, rows of five to seven, 14 patterns",
     )?;
     let mut line = [0u8; 4096];
     let n = script::read_full(&mut rt.stdin(), &mut line);
-    read(&rt, &line[..n])
+    read(&mut out, &line[..n])
 }
