@@ -20,131 +20,128 @@ use borrow.Author.Rules.{rules}
 use Rattle.catalogue_read.proofs.contents.check_rows.Statement.{statement}
 use Rattle.catalogue_read.proofs.contents.check_rows.Tie as tie
 
-abbrev invariant-loop : tie.invariant-loop
+abbrev invariant-loop : tie.invariant-loop-k
 invariant-loop file arities n first next₀ k₀ next k =
     (k ≤ n)
     × (next ≤ length file)
     × (placed (length file) (4 + 12 * k) next (entries_from (numbers file) n k) ≡ Fine)
     × (rows_fit arities (map (programme_in file) (entries_of n (drop 2 (numbers file)))) ≡ rows_fit arities (map (programme_in file) (entries_from (numbers file) n k)))
 
-abbrev decreases-loop : tie.decreases-loop
+abbrev decreases-loop : tie.decreases-loop-k
 decreases-loop file arities n first next₀ k₀ next k = n - k
 
-module _ (l : tie.At-loop invariant-loop decreases-loop) where
+module _ (l : tie.At-loop-k invariant-loop decreases-loop) where
   abbrev f : List ℕ
-  f = l.before.before.before.args.file.now
+  f = l.args.file.now
 
   abbrev A : List ℕ
-  A = l.before.before.before.args.arities.now
+  A = l.args.arities.now
 
   abbrev n : ℕ
-  n = l.before.before.before.args.n
+  n = l.args.n
 
   abbrev k : ℕ
-  k = l.loop.k
+  k = l.loop-k.k
 
-  lies : k < n → Lies (length f) l.loop.next (numbers f) n k
-  lies h = placed_lies (length f) l.loop.next (numbers f) n k h l.loop.inv.2
+  lies : k < n → Lies (length f) l.loop-k.next (numbers f) n k
+  lies h = placed_lies (length f) l.loop-k.next (numbers f) n k h l.loop-k.invariant.2
 
   -- what the check says from entry k on, by the verdict on the row there
   step : k < n → (long : ℕ) (v : Verdict) → long ≡ wide (numbers f) (6 + 6 * k)
-      → v ≡ reading A Symbols row_most (numbers (take (l.loop.next + 2 * long - l.loop.next) (drop l.loop.next f)))
+      → v ≡ reading A Symbols row_most (numbers (take (l.loop-k.next + 2 * long - l.loop-k.next) (drop l.loop-k.next f)))
       → rows_fit A (map (programme_in f) (entries_of n (drop 2 (numbers f))))
       ≡ as_programme (wide (numbers f) (2 + 6 * k)) v then rows_fit A (map (programme_in f) (entries_from (numbers f) n (k + 1)))
   step h long v e q =
       let same : reading A Symbols row_most (row_in f (entry_at (numbers f) (2 + 6 * k))) ≡ v =
-      ap (reading A Symbols row_most) (row_lies f (numbers f) l.loop.next k long (lies h).begins e) ∙ sym q in
-      l.loop.inv.3
+      ap (reading A Symbols row_most) (row_lies f (numbers f) l.loop-k.next k long (lies h).begins e) ∙ sym q in
+      l.loop-k.invariant.3
       ∙ rows_at A f (numbers f) n k h
       ∙ ap (λ (x : Verdict). as_programme (wide (numbers f) (2 + 6 * k)) x then rows_fit A (map (programme_in f) (entries_from (numbers f) n (k + 1)))) same
 
-loop-holds : tie.Need-loop-init invariant-loop decreases-loop
+loop-holds : tie.Need-loop-k-init invariant-loop decreases-loop
 loop-holds c =
-    let a = c.before.before.args in (
+    let a = c.args in (
       search rules,
       search rules,
-      ap (placed (length a.file.now) 4 a.first) (sym (entries_all a.n (numbers a.file.now))) ∙ c.before.before.requires.1,
+      ap (placed (length a.file.now) 4 a.first) (sym (entries_all a.n (numbers a.file.now))) ∙ c.requires.1,
       ap (λ (es : List Entry). rows_fit a.arities.now (map (programme_in a.file.now) es)) (entries_all a.n (numbers a.file.now)),
     )
 
-mul-wide-at : tie.Need-overflow-mul-wide-at invariant-loop decreases-loop
+mul-wide-at : tie.Need-overflow_mul-k invariant-loop decreases-loop
 mul-wide-at c = search rules
 
-add-wide-at : tie.Need-overflow-add-wide-at invariant-loop decreases-loop
+add-wide-at : tie.Need-overflow_add-k invariant-loop decreases-loop
 add-wide-at c = search rules
 
-wide-at-requires : tie.Need-wide-at-requires invariant-loop decreases-loop
+wide-at-requires : tie.Need-wide_at-requires invariant-loop decreases-loop
 wide-at-requires c κs = search rules
 
-cast-end : tie.Need-overflow-cast-end invariant-loop decreases-loop
+cast-end : tie.Need-overflow_cast-end invariant-loop decreases-loop
 cast-end c = search rules
 
-mul-end : tie.Need-overflow-mul-end invariant-loop decreases-loop
+mul-end : tie.Need-overflow_mul-end invariant-loop decreases-loop
 mul-end c = search rules
 
-add-end : tie.Need-overflow-add-end invariant-loop decreases-loop
+add-end : tie.Need-overflow_add-end invariant-loop decreases-loop
 add-end c = search rules
 
-sub-check-reading : tie.Need-overflow-sub-check-reading invariant-loop decreases-loop
+sub-check-reading : tie.Need-slice_bounds-check_reading-count invariant-loop decreases-loop
 sub-check-reading c = search rules
 
-part-check-reading-start : tie.Need-slice-bounds-check-reading-start invariant-loop decreases-loop
+part-check-reading-start : tie.Need-slice_bounds-check_reading-start invariant-loop decreases-loop
 part-check-reading-start c = search rules
 
-part-check-reading-end : tie.Need-slice-bounds-check-reading-end invariant-loop decreases-loop
+part-check-reading-end : tie.Need-slice_bounds-check_reading-end invariant-loop decreases-loop
 part-check-reading-end c = omega (arith, c.wide_at.ensures, (lies c.before.before (search rules)).within)
 
-check-reading-requires : tie.Need-check-reading-requires invariant-loop decreases-loop
+check-reading-requires : tie.Need-check_reading-requires invariant-loop decreases-loop
 check-reading-requires c κs = search rules
 
-enum-known-f : tie.Need-enum-known-f invariant-loop decreases-loop
+enum-known-f : tie.Need-enum_known-f invariant-loop decreases-loop
 enum-known-f c = search rules
 
-mul-wide-at-2 : tie.Need-overflow-mul-wide-at-2 invariant-loop decreases-loop
+mul-wide-at-2 : tie.Need-overflow_mul-k-in-Faulty invariant-loop decreases-loop
 mul-wide-at-2 c = search rules
 
-add-wide-at-2 : tie.Need-overflow-add-wide-at-2 invariant-loop decreases-loop
+add-wide-at-2 : tie.Need-overflow_add-k-in-Faulty invariant-loop decreases-loop
 add-wide-at-2 c = search rules
 
-wide-at-requires-2 : tie.Need-wide-at-requires-2 invariant-loop decreases-loop
+wide-at-requires-2 : tie.Need-wide_at-requires-in-Faulty invariant-loop decreases-loop
 wide-at-requires-2 c κs = search rules
 
-returns : tie.Need-returns invariant-loop decreases-loop
+returns : tie.Need-returns-in-Faulty invariant-loop decreases-loop
 returns c =
-    let d = c.before.before.before.before in
-    let l = d.before.before.before.before in
-    let long = d.before.before.wide_at in
-    sym (step l (search rules) long.result _ long.ensures d.check-reading.ensures
-    ∙ simp (c.before.before.f.given.1, sym c.wide-at2.ensures))
+    let long = c.wide_at in
+    sym (step c.before.before.before.before.before.before (search rules) long.result _ long.ensures c.check_reading.ensures
+    ∙ simp (c.in-Faulty.is, sym c.wide_at-in-Faulty.ensures))
 
-enum_told : tie.Need-enum-told invariant-loop decreases-loop
+enum_told : tie.Need-enum_told-1 invariant-loop decreases-loop
 enum_told c = search rules
 
-add-k : tie.Need-overflow-add-k invariant-loop decreases-loop
+add-k : tie.Need-overflow_add-k-in-Whole invariant-loop decreases-loop
 add-k c = search rules
 
-loop-less : tie.Need-loop-smaller invariant-loop decreases-loop
+loop-less : tie.Need-loop-k-smaller invariant-loop decreases-loop
 loop-less c = search rules
 
-loop-again : tie.Need-loop-preserved invariant-loop decreases-loop
+loop-again : tie.Need-loop-k-preserved invariant-loop decreases-loop
 loop-again c =
-    let d = c.before.before in
-    let l = d.before.before.before.before in
-    let r = lies l (search rules) in
-    let long = d.before.before.wide_at.ensures in (
+    let d = c.before.before.before.before.before in
+    let r = lies d (search rules) in
+    let long = c.wide_at.ensures in (
       search rules,
       omega (arith, long, r.within),
-      subst (λ (m : ℕ). placed (length (f l)) (4 + 12 * (k l + 1)) (l.loop.next + 2 * m) (entries_from (numbers (f l)) (n l) (k l + 1)) ≡ Fine) (sym long) r.rest,
-      step l (search rules) d.before.before.wide_at.result _ long d.check-reading.ensures ∙ simp c.enum_told.given.1,
+      subst (λ (m : ℕ). placed (length (f d)) (4 + 12 * (k d + 1)) (c.loop-k.next + 2 * m) (entries_from (numbers (f d)) (n d) (k d + 1)) ≡ Fine) (sym long) r.rest,
+      step d (search rules) c.wide_at.result _ long c.check_reading.ensures ∙ simp c.in-Whole.is,
     )
 
-returns-2 : tie.Need-returns-2 invariant-loop decreases-loop
+returns-2 : tie.Need-returns invariant-loop decreases-loop
 returns-2 c =
     let l = c.before in
-    sym (l.loop.invariant.3 ∙ rows_done (A l) (f l) (numbers (f l)) (n l) (k l) (search rules))
+    sym (c.loop-k.invariant.3 ∙ rows_done (A l) (f l) (numbers (f l)) (n l) (k l) (search rules))
 
-pub check-rows-spec : {M : Type 1} → statement M
-check-rows-spec =
+pub check_rows_spec : {M : Type 1} → statement M
+check_rows_spec =
     tie.close
     (tie.spec
     invariant-loop

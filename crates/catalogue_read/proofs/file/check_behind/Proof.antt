@@ -6,35 +6,35 @@ use borrow.Author.Rules.{rules}
 use Rattle.catalogue_read.proofs.file.check_behind.Statement.{statement}
 use Rattle.catalogue_read.proofs.file.check_behind.Tie as tie
 
-returns : tie.Need-returns
-returns c = let s = c.before.before.before in sym (arities_long s.args.file.now s.args.arities.now s.requires.1 c.if1.true)
+returns : tie.Need-returns-then-n-gt-ALPHABET_MOST
+returns c = sym (arities_long c.args.file.now c.args.arities.now c.requires.1 c.if-n-gt-ALPHABET_MOST.true)
 
-small-room-requires : tie.Need-small-room-requires
+small-room-requires : tie.Need-small_room-room-requires
 small-room-requires c κs = search rules
 
-slice-aggregate-check-in : tie.Need-slice-aggregate-check-in
+slice-aggregate-check-in : tie.Need-slice_bounds-check_in-end
 slice-aggregate-check-in c = search rules
 
-check-in-requires : tie.Need-check-in-requires
+check-in-requires : tie.Need-check_in-requires
 check-in-requires c κs = search rules
 
-returns-2 : tie.Need-returns-2
+returns-2 : tie.Need-returns-then-n-le-SMALL
 returns-2 c = search rules
 
-alphabet-room-requires : tie.Need-alphabet-room-requires
+alphabet-room-requires : tie.Need-alphabet_room-room-requires
 alphabet-room-requires c κs = search rules
 
-slice-aggregate-check-in-2 : tie.Need-slice-aggregate-check-in-2
+slice-aggregate-check-in-2 : tie.Need-slice_bounds-check_in-end-2
 slice-aggregate-check-in-2 c = search rules
 
-check-in-requires-2 : tie.Need-check-in-requires-2
+check-in-requires-2 : tie.Need-check_in-requires-2
 check-in-requires-2 c κs = search rules
 
-returns-3 : tie.Need-returns-3
+returns-3 : tie.Need-returns
 returns-3 c = search rules
 
-pub check-behind-spec : {M : Type 1} → statement M
-check-behind-spec =
+pub check_behind_spec : {M : Type 1} → statement M
+check_behind_spec =
     tie.close
     (tie.spec
     returns

@@ -17,86 +17,78 @@ use borrow.Author.Rules.{rules}
 use Rattle.catalogue_read.proofs.file.check_under.Statement.{statement}
 use Rattle.catalogue_read.proofs.file.check_under.Tie as tie
 
-module _ (a : tie.After-first-row-in) where
-  abbrev here : tie.Start
-  here = a.before.before.before.before.before.before.before
-
+module _ (a : tie.After-first_row_in-first) where
   abbrev f : List ℕ
-  f = here.args.file.now
+  f = a.args.file.now
 
   abbrev n : ℕ
-  n = a.before.programmes_in_lem.result
+  n = a.programmes_in-n.result
 
   counted : n ≡ programmes_in f
-  counted = a.before.programmes_in_lem.ensures.0
+  counted = a.programmes_in-n.ensures.0
 
   -- the alphabet is fine, where the contents are looked at
   fine : alphabet (alphabet_of (arities_in f)) ≡ Fine
   fine =
-      let d = a.before.before.before.before in
-      ap (λ (A : List ℕ). alphabet (alphabet_of A)) (sym here.pre.1) ∙ sym d.check-alphabet.ensures ∙ a.before.before.enum_told.given.1
+      ap (λ (A : List ℕ). alphabet (alphabet_of A)) (sym a.requires.1) ∙ sym a.check_alphabet.ensures ∙ a.in-Fine.is
 
 -- what the contents' check found
-contents : (c : tie.After-check-contents) → contents_fit (f c.before) ≡ c.check-contents.result
+contents : (c : tie.After-check_contents) → contents_fit (f c.before) ≡ c.check_contents.result
 contents c =
     let a = c.before in
-    contents_is (f a) (n a) (counted a) a.first-row-in.result a.first-row-in.ensures ∙ sym c.check-contents.ensures
+    contents_is (f a) (n a) (counted a) c.first_row_in-first.result c.first_row_in-first.ensures ∙ sym c.check_contents.ensures
 
-check-alphabet-requires : tie.Need-check-alphabet-requires
+check-alphabet-requires : tie.Need-check_alphabet-requires
 check-alphabet-requires c κs = search rules
 
-enum-known-r : tie.Need-enum-known-r
+enum-known-r : tie.Need-enum_known-r
 enum-known-r c = search rules
 
-enum_told : tie.Need-enum-told
+enum_told : tie.Need-enum_told-1
 enum_told c = search rules
 
-programmes-in-requires : tie.Need-programmes-in-requires
-programmes-in-requires c κs = headed _ c.before.before.before.before.before.requires.0
+programmes-in-requires : tie.Need-programmes_in-n-requires
+programmes-in-requires c κs = headed _ c.requires.0
 
-first-row-in-requires : tie.Need-first-row-in-requires
-first-row-in-requires c κs = headed _ c.before.before.before.before.before.before.requires.0
+first-row-in-requires : tie.Need-first_row_in-first-requires
+first-row-in-requires c κs = headed _ c.requires.0
 
-check-contents-requires : tie.Need-check-contents-requires
-check-contents-requires c κs = fits (f c) (here c).requires.0 (n c) c.first-row-in.result (counted c) c.first-row-in.ensures
+check-contents-requires : tie.Need-check_contents-requires
+check-contents-requires c κs = fits (f c) c.requires.0 (n c) c.first_row_in-first.result (counted c) c.first_row_in-first.ensures
 
-enum-known-r-2 : tie.Need-enum-known-r-2
+enum-known-r-2 : tie.Need-enum_known-r-in-Refused-check_contents
 enum-known-r-2 c = search rules
 
-enum-told-2 : tie.Need-enum-told-2
+enum-told-2 : tie.Need-enum_told-in-Fine-check_contents
 enum-told-2 c = search rules
 
-check-rows-requires : tie.Need-check-rows-requires
+check-rows-requires : tie.Need-check_rows-requires
 check-rows-requires c κs =
     let d = c.before.before in
-    let a = d.before in
-    let found = sym d.check-contents.ensures ∙ c.enum-told2.given.1 in
-    let rising = rises 12 4 0 (map programme_of (entries_of (n a) (drop 2 (numbers (f a))))) in
-    (fits (f a) (here a).requires.0 (n a) a.first-row-in.result (counted a) a.first-row-in.ensures, (both_fine rising _ found).1)
+    let found = sym c.check_contents.ensures ∙ c.in-Fine-check_contents.is in
+    let rising = rises 12 4 0 (map programme_of (entries_of (n d) (drop 2 (numbers (f d))))) in
+    (fits (f d) c.requires.0 (n d) c.first_row_in-first.result (counted d) c.first_row_in-first.ensures, (both_fine rising _ found).1)
 
-returns : tie.Need-returns
+returns : tie.Need-returns-in-Refused
 unfolding behind_head
 returns c =
-    let d = c.before.before.before in
-    simp (ap (λ (A : List ℕ). alphabet (alphabet_of A)) (sym d.before.before.before.requires.1) ∙ sym d.check-alphabet.ensures ∙ c.before.r.given.1)
+    simp (ap (λ (A : List ℕ). alphabet (alphabet_of A)) (sym c.requires.1) ∙ sym c.check_alphabet.ensures ∙ c.in-Refused.is)
 
-returns-2 : tie.Need-returns-2
+returns-2 : tie.Need-returns-in-Refused-check_contents
 unfolding behind_head
 returns-2 c =
-    let d = c.before.before.before in
-    simp (fine d.before, contents d ∙ c.before.r2.given.1)
+    simp (fine c.before.before, contents c.before ∙ c.in-Refused-check_contents.is)
 
-returns-3 : tie.Need-returns-3
+returns-3 : tie.Need-returns-in-Fine-check_contents
 unfolding behind_head
 returns-3 c =
     let d = c.before.before.before in
-    let a = d.before in
-    c.check-rows.ensures
-    ∙ sym (rows_are (f a) (n a) (counted a) (arities_in (f a)) (here a).args.arities.now (here a).requires.1)
-    ∙ simp (fine a, contents d ∙ c.before.enum-told2.given.1)
+    c.check_rows.ensures
+    ∙ sym (rows_are (f d) (n d) (counted d) (arities_in (f d)) c.args.arities.now c.requires.1)
+    ∙ simp (fine d, contents c.before.before ∙ c.in-Fine-check_contents.is)
 
-pub check-under-spec : {M : Type 1} → statement M
-check-under-spec =
+pub check_under_spec : {M : Type 1} → statement M
+check_under_spec =
     tie.close
     (tie.spec
     check-alphabet-requires

@@ -12,45 +12,43 @@ use borrow.Author.Rules.{rules}
 use Rattle.catalogue_read.proofs.head.check_head.Statement.{statement}
 use Rattle.catalogue_read.proofs.head.check_head.Tie as tie
 
-returns : tie.Need-returns
+returns : tie.Need-returns-then-size-gt-FILE_MOST
 unfolding head_fits file_size
-returns c = simp (lt-ltb _ _ c.if1.true)
+returns c = simp (lt-ltb _ _ c.if-size-gt-FILE_MOST.true)
 
-returns-2 : tie.Need-returns-2
+returns-2 : tie.Need-returns-then-size-lt4
 unfolding head_fits file_size holds first_row_in first_row
 returns-2 c =
-    let f = c.before.before.before.args.file.now in
-    let short : length f < first_row_in f = omega (arith, c.if2.true) in
-    simp (le-ltb _ _ c.before.if1.false, lt-ltb _ _ short)
+    let f = c.args.file.now in
+    let short : length f < first_row_in f = omega (arith, c.if-size-lt4.true) in
+    simp (le-ltb _ _ c.if-size-gt-FILE_MOST.false, lt-ltb _ _ short)
 
-first-row-in-requires : tie.Need-first-row-in-requires
+first-row-in-requires : tie.Need-first_row_in-requires
 first-row-in-requires c κs = search rules
 
-returns-3 : tie.Need-returns-3
+returns-3 : tie.Need-returns-then-size-first_row_in
 unfolding head_fits file_size holds
-returns-3 c = simp (le-ltb _ _ c.before.before.before.if1.false, sym c.before.first-row-in.ensures, lt-ltb _ _ c.if3.true)
+returns-3 c = simp (le-ltb _ _ c.if-size-gt-FILE_MOST.false, sym c.first_row_in.ensures, lt-ltb _ _ c.if-size-first_row_in.true)
 
-programmes-in-requires : tie.Need-programmes-in-requires
+programmes-in-requires : tie.Need-programmes_in-n-requires
 programmes-in-requires c κs = search rules
 
-returns-4 : tie.Need-returns-4
+returns-4 : tie.Need-returns-then-n-gt-PROGRAMMES_MOST
 unfolding head_fits file_size holds few
 returns-4 c =
-    let d = c.before.before in
-    let size = le-ltb _ _ d.before.before.before.if1.false in
-    let long = le-ltb _ _ d.if3.false in
-    simp (size, sym d.before.first-row-in.ensures, long, sym c.before.programmes_in_lem.ensures.0, lt-ltb _ _ c.if4.true)
+    let size = le-ltb _ _ c.if-size-gt-FILE_MOST.false in
+    let long = le-ltb _ _ c.if-size-first_row_in.false in
+    simp (size, sym c.first_row_in.ensures, long, sym c.programmes_in-n.ensures.0, lt-ltb _ _ c.if-n-gt-PROGRAMMES_MOST.true)
 
-returns-5 : tie.Need-returns-5
+returns-5 : tie.Need-returns
 unfolding head_fits file_size holds few
 returns-5 c =
-    let d = c.before.before in
-    let size = le-ltb _ _ d.before.before.before.if1.false in
-    let long = le-ltb _ _ d.if3.false in
-    simp (size, sym d.before.first-row-in.ensures, long, sym c.before.programmes_in_lem.ensures.0, le-ltb _ _ c.if4.false)
+    let size = le-ltb _ _ c.if-size-gt-FILE_MOST.false in
+    let long = le-ltb _ _ c.if-size-first_row_in.false in
+    simp (size, sym c.first_row_in.ensures, long, sym c.programmes_in-n.ensures.0, le-ltb _ _ c.if-n-gt-PROGRAMMES_MOST.false)
 
-pub check-head-spec : {M : Type 1} → statement M
-check-head-spec =
+pub check_head_spec : {M : Type 1} → statement M
+check_head_spec =
     tie.close
     (tie.spec
     returns

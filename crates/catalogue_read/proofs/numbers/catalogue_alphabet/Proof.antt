@@ -16,81 +16,81 @@ use Rattle.catalogue_read.proofs.numbers.catalogue_alphabet.Statement.{statement
 use Rattle.catalogue_read.proofs.numbers.catalogue_alphabet.Tie as tie
 
 -- the head is right, where it is read
-right : (c : tie.After-enum-told) → head_fits c.before.before.before.before.before.args.file.now ≡ Fine
-right c = sym c.before.before.check-head.ensures ∙ c.enum_told.given.1
+right : (c : tie.In-Fine) → head_fits c.args.file.now ≡ Fine
+right c = sym c.check_head.ensures ∙ c.in-Fine.is
 
-check-head-requires : tie.Need-check-head-requires
+check-head-requires : tie.Need-check_head-requires
 check-head-requires c κs = search rules
 
-enum-known-r : tie.Need-enum-known-r
+enum-known-r : tie.Need-enum_known-r
 enum-known-r c = search rules
 
-enum_told : tie.Need-enum-told
+enum_told : tie.Need-enum_told-1
 enum_told c = search rules
 
-symbols-in-requires : tie.Need-symbols-in-requires
+symbols-in-requires : tie.Need-symbols_in-n-requires
 symbols-in-requires c κs = headed _ (right c)
 
-returns : tie.Need-returns
+returns : tie.Need-returns-then-arities-n
 returns c =
-    let a = c.before.before.before.before.before.before.before.args in
-    let s = c.before.symbols_in_lem in
+    let a = c.args in
+    let s = c.symbols_in-n in
     let b = a.arities.now in
     takes_none (alphabet_check a.file.now (length b)) (arities_in a.file.now) b _
-    (alphabet-short a.file.now (right c.before.before) s.result (length b) s.ensures.0 c.if1.true)
+    (alphabet-short a.file.now (right c.before.before) s.result (length b) s.ensures.0 c.if-arities-n.true)
 
-programmes-in-requires : tie.Need-programmes-in-requires
+programmes-in-requires : tie.Need-programmes_in-requires
 programmes-in-requires c κs = headed _ (right c.before.before)
 
-mul-begin : tie.Need-overflow-mul-begin
+mul-begin : tie.Need-overflow_mul-begin
 mul-begin c = search rules
 
-add_begin : tie.Need-overflow-add-begin
+add_begin : tie.Need-overflow_add-begin
 add_begin c = search rules
 
-add-widen : tie.Need-overflow-add-widen
+add-widen : tie.Need-overflow_add-begin-in-Fine
 add-widen c = search rules
 
-sub-widen : tie.Need-overflow-sub-widen
+sub-widen : tie.Need-slice_bounds-widen-count
 sub-widen c = search rules
 
-part-widen-start : tie.Need-slice-bounds-widen-start
+part-widen-start : tie.Need-slice_bounds-widen-start
 part-widen-start c = search rules
 
-part-widen-end : tie.Need-slice-bounds-widen-end
+part-widen-end : tie.Need-slice_bounds-widen-end
 part-widen-end c =
-    let n = c.programmes_in_lem in
-    let s = c.before.before.symbols_in_lem in
+    let n = c.programmes_in in
+    let s = c.symbols_in-n in
     omega (arith, arities_fit_lem _ (right c.before.before.before) n.result s.result n.ensures.0 s.ensures.0)
 
 widen-requires : tie.Need-widen-requires
 widen-requires c κs = search rules
 
-returns-2 : tie.Need-returns-2
+returns-2 : tie.Need-returns-in-Refused
 unfolding alphabet_check
 returns-2 c =
-    let a = c.before.before.before.before.before.before.args in
+    let a = c.args in
     takes_none (alphabet_check a.file.now (length a.arities.now)) (arities_in a.file.now) a.arities.now _
-    (simp (sym c.before.before.before.check-head.ensures ∙ c.before.r.given.1))
+    (simp (sym c.check_head.ensures ∙ c.in-Refused.is))
 
-same_length : tie.Need-same-length
+same_length : tie.Need-shape_of-arities
 same_length c = search rules
 
-returns-3 : tie.Need-returns-3
+returns-3 : tie.Need-returns-else-arities-n
 returns-3 c =
-    let a = c.before.before.before.before.before.before.before.before.before.before.before.before.before.args in
+    let a = c.args in
     let h = right c.before.before.before.before.before.before.before.before in
-    let s = c.before.before.before.before.before.before.before.symbols_in_lem in
-    let n = c.before.before.before.before.before.programmes_in_lem in
+    let s = c.symbols_in-n in
+    let n = c.programmes_in in
     let f = a.file.now in
     let b = a.arities.now in
     takes_all (alphabet_check f (length b)) (arities_in f) b s.result _
-    (alphabet_fits f h s.result (length b) s.ensures.0 c.before.before.before.before.before.before.if1.false)
+    (alphabet_fits f h s.result (length b) s.ensures.0 c.if-arities-n.false)
     (arities-count f h s.result (length b) s.ensures.0)
-    (c.before.before.widen.ensures ∙ ap (λ (v : List ℕ). written b 0 v) (arities_are f n.result n.ensures.0 s.result s.ensures.0))
+    (c.widen.ensures ∙ ap (λ (v : List ℕ). written b 0 v) (arities_are f n.result n.ensures.0 s.result s.ensures.0))
 
-pub catalogue-alphabet-spec : {M : Type 1} → statement M
-catalogue-alphabet-spec =
+pub catalogue_alphabet_spec : {M : Type 1} → statement M
+catalogue_alphabet_spec =
     tie.close
     (tie.spec
     check-head-requires
