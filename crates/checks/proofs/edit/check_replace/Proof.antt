@@ -25,48 +25,52 @@ abbrev v : tie.Start → List ℕ
 v s = s.args.replacement.now
 
 -- once the first check is through
-is-given : (c : tie.After-enum-told) → given (a c.before.before.before.before.before.before.before.before) (P c.before.before.before.before.before.before.before.before) c.before.before.before.before.before.before.before.before.args.n ≡ Fine
-is-given c = sym c.before.before.check-given.ensures ∙ c.enum_told.given.1
+is-given : (c : tie.In-Fine) → given (a c.before.before.before.before.before.before.before) (P c.before.before.before.before.before.before.before) c.args.n ≡ Fine
+is-given c =
+    let s = c.before.before.before.before.before.before.before in
+    sym c.check_given-given.ensures ∙ c.in-Fine.is
 
-held : (c : tie.After-enum-told) → Held (a c.before.before.before.before.before.before.before.before) (P c.before.before.before.before.before.before.before.before) c.before.before.before.before.before.before.before.before.args.n
-held c = given_held (a c.before.before.before.before.before.before.before.before) (P c.before.before.before.before.before.before.before.before) c.before.before.before.before.before.before.before.before.args.n (is-given c)
+held : (c : tie.In-Fine) → Held (a c.before.before.before.before.before.before.before) (P c.before.before.before.before.before.before.before) c.args.n
+held c =
+    let s = c.before.before.before.before.before.before.before in
+    given_held (a s) (P s) c.args.n (is-given c)
 
-check-given-requires : tie.Need-check-given-requires
+check-given-requires : tie.Need-check_given-given-requires
 check-given-requires c κs = search rules
 
-enum_told : tie.Need-enum-told
+enum_told : tie.Need-enum_told-1
 enum_told c = search rules
 
-enum-told-2 : tie.Need-enum-told-2
+enum-told-2 : tie.Need-enum_told-in_default
 enum-told-2 c = search rules
 
-returns : tie.Need-returns
+returns : tie.Need-returns-in_default
 unfolding replace_check
-returns c = simp (c.enum-told2.given.1, sym c.before.before.check-given.ensures ∙ c.enum-told2.given.1)
+returns c = simp (c.in_default.is, sym c.check_given-given.ensures ∙ c.in_default.is)
 
-shortest-requires : tie.Need-shortest-requires
+shortest-requires : tie.Need-shortest-room-requires
 shortest-requires c κs = search rules
 
-check-replacement-requires : tie.Need-check-replacement-requires
+check-replacement-requires : tie.Need-check_replacement-requires
 check-replacement-requires c κs =
-    let s = c.before.before.before.before.before.before.before.before.before in
+    let s = c.before.before.before.before.before.before.before.before in
     let h = held c.before in
-    (h.most, search (rules, h.fits), held_end (a s) (P s) s.args.n s.args.position h)
+    (h.most, search (rules, h.fits), held_end (a s) (P s) c.args.n c.args.position h)
 
-returns-2 : tie.Need-returns-2
+returns-2 : tie.Need-returns
 unfolding replace_check
 returns-2 c =
+    let s = c.before.before.before.before.before.before.before.before.before in
     let t = c.before.before in
-    let s = c.before.before.before.before.before.before.before.before.before.before in
-    let n : ℕ = s.args.n in
-    let p : ℕ = s.args.position in
+    let n : ℕ = c.args.n in
+    let p : ℕ = c.args.position in
     simp (is-given t)
-    (c.check-replacement.ensures
-    ∙ ap (λ (places : ℕ). replacement (a s).arities (v s) then position n p then grown (p + length (v s) + (n - get_or (P s).table p 0)) places) c.before.shortest.ensures
+    (c.check_replacement.ensures
+    ∙ ap (λ (places : ℕ). replacement (a s).arities (v s) then position n p then grown (p + length (v s) + (n - get_or (P s).table p 0)) places) c.shortest-room.ensures
     ∙ place-behind (a s) (P s) n (v s) p (room (P s)) (held t))
 
-pub check-replace-spec : {M : Type 1} → statement M
-check-replace-spec =
+pub check_replace_spec : {M : Type 1} → statement M
+check_replace_spec =
     tie.close
     (tie.spec
     check-given-requires

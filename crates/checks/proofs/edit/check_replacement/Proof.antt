@@ -8,32 +8,37 @@ use borrow.Author.Rules.{rules}
 use Rattle.checks.proofs.edit.check_replacement.Statement.{statement}
 use Rattle.checks.proofs.edit.check_replacement.Tie as tie
 
-whole : (c : tie.After-enum-told) → (let s = c.before.before.before.before.before.before in replacement s.args.arities.now s.args.replacement.now ≡ Fine)
+whole : (c : tie.In_default) → (replacement c.args.arities.now c.args.replacement.now ≡ Fine)
 unfolding replacement
-whole c = ap as_replacement (sym c.before.before.check-reading.ensures ∙ c.enum_told.given.1)
+whole c = ap as_replacement (sym c.check_reading.ensures ∙ c.in_default.is)
 
-check-reading-requires : tie.Need-check-reading-requires
+check-reading-requires : tie.Need-check_reading-requires
 check-reading-requires c κs = search rules
 
-enum-known-f : tie.Need-enum-known-f
+enum-known-f : tie.Need-enum_known-f
 enum-known-f c = search rules
 
-returns : tie.Need-returns
+returns : tie.Need-returns-in-Faulty
 unfolding replacement
-returns c = simp (sym c.before.before.before.check-reading.ensures ∙ c.before.f.given.1)
+returns c = simp (sym c.check_reading.ensures ∙ c.in-Faulty.is)
 
-enum_told : tie.Need-enum-told
+enum_told : tie.Need-enum_told-1
 enum_told c = search rules
 
-check-place-requires : tie.Need-check-place-requires
+check-place-requires : tie.Need-check_place-requires
 check-place-requires c κs =
-    let s = c.before.before.before.before.before.before in
-    (s.requires.0, (replacement_fine s.args.arities.now s.args.replacement.now (whole (c))).0, s.requires.1, s.requires.2)
+    (c.requires.0, (replacement_fine c.args.arities.now c.args.replacement.now (whole c)).0, c.requires.1, c.requires.2)
 
-returns-2 : tie.Need-returns-2
-returns-2 c = simp (whole c.before) c.check-place.ensures
+returns-2 : tie.Need-returns
+returns-2 c = simp (whole c.before) c.check_place.ensures
 
-pub check-replacement-spec : {M : Type 1} → statement M
-check-replacement-spec =
+pub check_replacement_spec : {M : Type 1} → statement M
+check_replacement_spec =
     tie.close
-    (tie.spec check-reading-requires enum-known-f returns enum_told check-place-requires returns-2)
+    (tie.spec
+    check-reading-requires
+    enum-known-f
+    returns
+    enum_told
+    check-place-requires
+    returns-2)

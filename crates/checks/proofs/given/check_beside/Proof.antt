@@ -7,46 +7,44 @@ use Rattle.checks.proofs.given.check_beside.Statement.{statement}
 use Rattle.checks.proofs.given.check_beside.Tie as tie
 use Rattle.tables.proofs.check_beside.Reads as check-beside-reads'
 
-check-beside-requires : tie.Need-check-beside-requires
+check-beside-requires : tie.Need-check_beside-found-requires
 check-beside-requires c κs = search rules
 
-enum_told : tie.Need-enum-told
+enum_told : tie.Need-enum_told-1
 enum_told c = search rules
 
-enum-told-2 : tie.Need-enum-told-2
+enum-told-2 : tie.Need-enum_told-in_default
 enum-told-2 c = search rules
 
-same_length : tie.Need-same-length
+same_length : tie.Need-shape_of-room-in_default
 same_length c = search rules
 
-returns : tie.Need-returns
+returns : tie.Need-returns-in_default
 returns c =
-    let g = c.before.before.before.before.before.before.before.before.before.before.before.args in
-    let k = c.before.before.before.before.check-beside in
-    before-classes g.arities.now g.row.now g.table.now g.classes.now k.result k.ensures c.enum-told2.given.1
+    let g = c.args in
+    let k = c.check_beside-found in
+    before-classes g.arities.now g.row.now g.table.now g.classes.now k.result k.ensures c.in_default.is
 
-check-beside-requires-2 : tie.Need-check-beside-requires-2
+check-beside-requires-2 : tie.Need-check_beside-requires
 check-beside-requires-2 c κs =
-    let s = c.before.before.before.before.before.before.before.before.before.before.before.before in
-    let g = s.args in
-    let k = c.before.before.before.before.before.check-beside in
-    let right = found_right g.arities.now g.row.now g.table.now g.classes.now k.result k.ensures s.requires.0 c.before.enum_told.given.1 in
-    ((g.arities.now, right), (s.requires.1, omega (arith, k.auto, s.requires.2)))
+    let g = c.args in
+    let k = c.check_beside-found in
+    let right = found_right g.arities.now g.row.now g.table.now g.classes.now k.result k.ensures c.requires.0 c.in-Sound.is in
+    ((g.arities.now, right), (c.requires.1, omega (arith, k.auto, c.requires.2)))
 
-same-length-2 : tie.Need-same-length-2
+same-length-2 : tie.Need-shape_of-room
 same-length-2 c = search rules
 
-returns-2 : tie.Need-returns-2
+returns-2 : tie.Need-returns
 returns-2 c =
-    let s = c.before.before.before.before.before.before.before.before.before.before.before.before.before.before.before in
-    let g = s.args in
-    let k = c.before.before.before.before.before.before.before.before.check-beside in
-    let e = c.before.before.before.before.enum_told.given.1 in
-    let l = c.before.before.check-beside2 in
-    then_classes g.arities.now g.row.now g.table.now g.classes.now k.result k.ensures e l.result (l.ensures g.arities.now (found_right g.arities.now g.row.now g.table.now g.classes.now k.result k.ensures s.requires.0 e))
+    let g = c.args in
+    let k = c.check_beside-found in
+    let e = c.in-Sound.is in
+    let l = c.check_beside in
+    then_classes g.arities.now g.row.now g.table.now g.classes.now k.result k.ensures e l.result (l.ensures g.arities.now (found_right g.arities.now g.row.now g.table.now g.classes.now k.result k.ensures c.requires.0 e))
 
-pub check-beside-spec : {M : Type 1} → statement M
-check-beside-spec =
+pub check_beside_spec : {M : Type 1} → statement M
+check_beside_spec =
     tie.close
     (tie.spec
     check-beside-requires

@@ -8,68 +8,59 @@ use borrow.Author.Rules.{rules}
 use Rattle.checks.proofs.matcher.check_plain.Statement.{statement}
 use Rattle.checks.proofs.matcher.check_plain.Tie as tie
 
-check-alphabet-requires : tie.Need-check-alphabet-requires
+check-alphabet-requires : tie.Need-check_alphabet-alphabet-requires
 check-alphabet-requires c κs = search rules
 
-enum_told : tie.Need-enum-told
+enum_told : tie.Need-enum_told-1
 enum_told c = search rules
 
-enum-told-2 : tie.Need-enum-told-2
+enum-told-2 : tie.Need-enum_told-in_default
 enum-told-2 c = search rules
 
-returns : tie.Need-returns
+returns : tie.Need-returns-in_default
 unfolding plain_check
-returns c = simp (c.enum-told2.given.1, sym c.before.before.check-alphabet.ensures ∙ c.enum-told2.given.1)
+returns c = simp (c.in_default.is, sym c.check_alphabet-alphabet.ensures ∙ c.in_default.is)
 
-check-reading-requires : tie.Need-check-reading-requires
+check-reading-requires : tie.Need-check_reading-requires
 check-reading-requires c κs = search rules
 
-enum-known-f : tie.Need-enum-known-f
+enum-known-f : tie.Need-enum_known-f
 enum-known-f c = search rules
 
-returns-2 : tie.Need-returns-2
+returns-2 : tie.Need-returns-in-Faulty
 unfolding plain_check
 returns-2 c =
-    let at-check-alphabet = c.before.before.before.before.before.before in
-    simp (sym at-check-alphabet.check-alphabet.ensures ∙ c.before.before.before.before.enum_told.given.1, sym c.before.before.before.check-reading.ensures ∙ c.before.f.given.1)
+    simp (sym c.check_alphabet-alphabet.ensures ∙ c.in-Fine.is, sym c.check_reading.ensures ∙ c.in-Faulty.is)
 
-enum-told-3 : tie.Need-enum-told-3
+enum-told-3 : tie.Need-enum_told-in_default-check_reading
 enum-told-3 c = search rules
 
-check-pattern-requires : tie.Need-check-pattern-requires
+check-pattern-requires : tie.Need-check_pattern-read-requires
 check-pattern-requires c κs = search rules
 
-enum-told-4 : tie.Need-enum-told-4
+enum-told-4 : tie.Need-enum_told-in-Fine-read
 enum-told-4 c = search rules
 
-enum-told-5 : tie.Need-enum-told-5
+enum-told-5 : tie.Need-enum_told-in_default-read
 enum-told-5 c = search rules
 
-returns-3 : tie.Need-returns-3
+returns-3 : tie.Need-returns-in_default-read
 unfolding plain_check
 returns-3 c =
-    let at-check-alphabet = c.before.before.before.before.before.before.before.before in
-    let at-enum-told = c.before.before.before.before.before.before in
-    simp (sym at-check-alphabet.check-alphabet.ensures ∙ at-enum-told.enum_told.given.1, sym c.before.before.before.before.before.check-reading.ensures ∙ c.before.before.before.enum-told3.given.1, c.enum-told5.given.1, sym c.before.before.check-pattern.ensures ∙ c.enum-told5.given.1)
+    simp (sym c.check_alphabet-alphabet.ensures ∙ c.in-Fine.is, sym c.check_reading.ensures ∙ c.in_default-check_reading.is, c.in_default-read.is, sym c.check_pattern-read.ensures ∙ c.in_default-read.is)
 
-returns-4 : tie.Need-returns-4
+returns-4 : tie.Need-returns-then-position-row
 unfolding plain_check position
 returns-4 c =
-    let at-check-alphabet = c.before.before.before.before.before.before.before.before.before in
-    let at-enum-told = c.before.before.before.before.before.before.before in
-    let at-check-reading = c.before.before.before.before.before.before in
-    simp (sym at-check-alphabet.check-alphabet.ensures ∙ at-enum-told.enum_told.given.1, sym at-check-reading.check-reading.ensures ∙ c.before.before.before.before.enum-told3.given.1, sym c.before.before.before.check-pattern.ensures ∙ c.before.enum-told4.given.1, lt-leb _ _ c.if1.true)
+    simp (sym c.check_alphabet-alphabet.ensures ∙ c.in-Fine.is, sym c.check_reading.ensures ∙ c.in_default-check_reading.is, sym c.check_pattern-read.ensures ∙ c.in-Fine-read.is, lt-leb _ _ c.if-position-row.true)
 
-returns-5 : tie.Need-returns-5
+returns-5 : tie.Need-returns
 unfolding plain_check position
 returns-5 c =
-    let at-check-alphabet = c.before.before.before.before.before.before.before.before.before in
-    let at-enum-told = c.before.before.before.before.before.before.before in
-    let at-check-reading = c.before.before.before.before.before.before in
-    simp (sym at-check-alphabet.check-alphabet.ensures ∙ at-enum-told.enum_told.given.1, sym at-check-reading.check-reading.ensures ∙ c.before.before.before.before.enum-told3.given.1, sym c.before.before.before.check-pattern.ensures ∙ c.before.enum-told4.given.1, le-leb _ _ c.if1.false)
+    simp (sym c.check_alphabet-alphabet.ensures ∙ c.in-Fine.is, sym c.check_reading.ensures ∙ c.in_default-check_reading.is, sym c.check_pattern-read.ensures ∙ c.in-Fine-read.is, le-leb _ _ c.if-position-row.false)
 
-pub check-plain-spec : {M : Type 1} → statement M
-check-plain-spec =
+pub check_plain_spec : {M : Type 1} → statement M
+check_plain_spec =
     tie.close
     (tie.spec
     check-alphabet-requires

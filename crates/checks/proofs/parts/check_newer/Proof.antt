@@ -8,45 +8,43 @@ use borrow.Author.Rules.{rules}
 use Rattle.checks.proofs.parts.check_newer.Statement.{statement}
 use Rattle.checks.proofs.parts.check_newer.Tie as tie
 
-check-given-requires : tie.Need-check-given-requires
+check-given-requires : tie.Need-check_given-given-requires
 check-given-requires c κs = search rules
 
-enum_told : tie.Need-enum-told
+enum_told : tie.Need-enum_told-1
 enum_told c = search rules
 
-enum-told-2 : tie.Need-enum-told-2
+enum-told-2 : tie.Need-enum_told-in_default
 enum-told-2 c = search rules
 
-returns : tie.Need-returns
+returns : tie.Need-returns-in_default
 unfolding newer_check
-returns c = simp (c.enum-told2.given.1, sym c.before.before.check-given.ensures ∙ c.enum-told2.given.1)
+returns c = simp (c.in_default.is, sym c.check_given-given.ensures ∙ c.in_default.is)
 
-check-kept-requires : tie.Need-check-kept-requires
+check-kept-requires : tie.Need-check_kept-requires
 check-kept-requires c κs = search rules
 
-enum-known-k : tie.Need-enum-known-k
+enum-known-k : tie.Need-enum_known-k
 enum-known-k c = search rules
 
-returns-2 : tie.Need-returns-2
+returns-2 : tie.Need-returns-in-Unsound
 unfolding newer_check
 returns-2 c =
-    let at-check-given = c.before.before.before.before.before.before in
-    simp (sym at-check-given.check-given.ensures ∙ c.before.before.before.before.enum_told.given.1, sym (c.before.before.before.check-kept.ensures OnRecord) ∙ ap (keeps OnRecord) c.before.k.given.1)
+    simp (sym c.check_given-given.ensures ∙ c.in-Fine.is, sym (c.check_kept.ensures OnRecord) ∙ ap (keeps OnRecord) c.in-Unsound.is)
 
-enum-told-3 : tie.Need-enum-told-3
+enum-told-3 : tie.Need-enum_told-in_default-check_kept
 enum-told-3 c = search rules
 
-check-pattern-requires : tie.Need-check-pattern-requires
+check-pattern-requires : tie.Need-check_pattern-requires
 check-pattern-requires c κs = search rules
 
-returns-3 : tie.Need-returns-3
+returns-3 : tie.Need-returns
 unfolding newer_check
 returns-3 c =
-    let at-check-given = c.before.before.before.before.before.before in
-    simp (sym at-check-given.check-given.ensures ∙ c.before.before.before.before.enum_told.given.1, sym (c.before.before.before.check-kept.ensures OnRecord) ∙ ap (keeps OnRecord) c.before.enum-told3.given.1, c.check-pattern.ensures)
+    simp (sym c.check_given-given.ensures ∙ c.in-Fine.is, sym (c.check_kept.ensures OnRecord) ∙ ap (keeps OnRecord) c.in_default-check_kept.is, c.check_pattern.ensures)
 
-pub check-newer-spec : {M : Type 1} → statement M
-check-newer-spec =
+pub check_newer_spec : {M : Type 1} → statement M
+check_newer_spec =
     tie.close
     (tie.spec
     check-given-requires

@@ -8,34 +8,41 @@ use borrow.Author.Rules.{rules}
 use Rattle.checks.proofs.search.check_variables.Statement.{statement}
 use Rattle.checks.proofs.search.check_variables.Tie as tie
 
-check-search-requires : tie.Need-check-search-requires
+check-search-requires : tie.Need-check_search-search-requires
 check-search-requires c κs = search rules
 
-enum_told : tie.Need-enum-told
+enum_told : tie.Need-enum_told-1
 enum_told c = search rules
 
-enum-told-2 : tie.Need-enum-told-2
+enum-told-2 : tie.Need-enum_told-in_default
 enum-told-2 c = search rules
 
-returns : tie.Need-returns
+returns : tie.Need-returns-in_default
 unfolding variables_check
-returns c = simp (c.enum-told2.given.1, sym c.before.before.check-search.ensures ∙ c.enum-told2.given.1)
+returns c = simp (c.in_default.is, sym c.check_search-search.ensures ∙ c.in_default.is)
 
-returns-2 : tie.Need-returns-2
+returns-2 : tie.Need-returns-then-row-position
 unfolding variables_check position
-returns-2 c = simp (sym c.before.before.before.check-search.ensures ∙ c.before.enum_told.given.1, le-leb _ _ c.if1.true)
+returns-2 c = simp (sym c.check_search-search.ensures ∙ c.in-Fine.is, le-leb _ _ c.if-row-position.true)
 
-returns-3 : tie.Need-returns-3
+returns-3 : tie.Need-returns-then-places-lt-SPAN_PLACES
 unfolding variables_check position output
 returns-3 c =
-    simp (sym c.before.before.before.before.check-search.ensures ∙ c.before.before.enum_told.given.1, lt-leb _ _ c.before.if1.false, lt-ltb _ _ c.if2.true)
+    simp (sym c.check_search-search.ensures ∙ c.in-Fine.is, lt-leb _ _ c.if-row-position.false, lt-ltb _ _ c.if-places-lt-SPAN_PLACES.true)
 
-returns-4 : tie.Need-returns-4
+returns-4 : tie.Need-returns
 unfolding variables_check position output
 returns-4 c =
-    simp (sym c.before.before.before.before.check-search.ensures ∙ c.before.before.enum_told.given.1, lt-leb _ _ c.before.if1.false, le-ltb _ _ c.if2.false)
+    simp (sym c.check_search-search.ensures ∙ c.in-Fine.is, lt-leb _ _ c.if-row-position.false, le-ltb _ _ c.if-places-lt-SPAN_PLACES.false)
 
-pub check-variables-spec : {M : Type 1} → statement M
-check-variables-spec =
+pub check_variables_spec : {M : Type 1} → statement M
+check_variables_spec =
     tie.close
-    (tie.spec check-search-requires enum_told enum-told-2 returns returns-2 returns-3 returns-4)
+    (tie.spec
+    check-search-requires
+    enum_told
+    enum-told-2
+    returns
+    returns-2
+    returns-3
+    returns-4)

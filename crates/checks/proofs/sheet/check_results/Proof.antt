@@ -11,34 +11,34 @@ use borrow.Author.Rules.{rules}
 use Rattle.checks.proofs.sheet.check_results.Statement.{statement}
 use Rattle.checks.proofs.sheet.check_results.Tie as tie
 
-fine : (c : tie.After-enum-told) → sheet c.before.before.before.before.args.lengths.now c.before.before.before.before.args.lent ≡ Fine
-fine c = sym c.before.before.check-lengths.ensures ∙ c.enum_told.given.1
+fine : (c : tie.In-Fine) → sheet c.args.lengths.now c.args.lent ≡ Fine
+fine c = sym c.check_lengths-laid.ensures ∙ c.in-Fine.is
 
-check-lengths-requires : tie.Need-check-lengths-requires
+check-lengths-requires : tie.Need-check_lengths-laid-requires
 check-lengths-requires c κs = search rules
 
-enum_told : tie.Need-enum-told
+enum_told : tie.Need-enum_told-1
 enum_told c = search rules
 
-enum-told-2 : tie.Need-enum-told-2
+enum-told-2 : tie.Need-enum_told-in_default
 enum-told-2 c = search rules
 
-returns : tie.Need-returns
-returns c = simp (c.enum-told2.given.1, sym c.before.before.check-lengths.ensures ∙ c.enum-told2.given.1)
+returns : tie.Need-returns-in_default
+returns c = simp (c.in_default.is, sym c.check_lengths-laid.ensures ∙ c.in_default.is)
 
-mul-needed : tie.Need-overflow-mul-needed
+mul-needed : tie.Need-overflow_mul-needed
 mul-needed c = omega (arith, (sheet-laid _ _ (fine c)).most)
 
-returns-2 : tie.Need-returns-2
+returns-2 : tie.Need-returns-then-places-needed
 unfolding output
-returns-2 c = simp (fine c.before, lt-ltb _ _ c.if1.true)
+returns-2 c = simp (fine c.before, lt-ltb _ _ c.if-places-needed.true)
 
-returns-3 : tie.Need-returns-3
+returns-3 : tie.Need-returns
 unfolding output
-returns-3 c = simp (fine c.before, le-ltb _ _ c.if1.false)
+returns-3 c = simp (fine c.before, le-ltb _ _ c.if-places-needed.false)
 
-pub check-results-spec : {M : Type 1} → statement M
-check-results-spec =
+pub check_results_spec : {M : Type 1} → statement M
+check_results_spec =
     tie.close
     (tie.spec
     check-lengths-requires

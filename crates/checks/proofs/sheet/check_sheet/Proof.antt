@@ -6,28 +6,28 @@ use borrow.Author.Rules.{rules}
 use Rattle.checks.proofs.sheet.check_sheet.Statement.{statement}
 use Rattle.checks.proofs.sheet.check_sheet.Tie as tie
 
-check-given-requires : tie.Need-check-given-requires
+check-given-requires : tie.Need-check_given-given-requires
 check-given-requires c κs = search rules
 
-enum_told : tie.Need-enum-told
+enum_told : tie.Need-enum_told-1
 enum_told c = search rules
 
-enum-told-2 : tie.Need-enum-told-2
+enum-told-2 : tie.Need-enum_told-in_default
 enum-told-2 c = search rules
 
-returns : tie.Need-returns
+returns : tie.Need-returns-in_default
 unfolding results_check
-returns c = simp (c.enum-told2.given.1, sym c.before.before.check-given.ensures ∙ c.enum-told2.given.1)
+returns c = simp (c.in_default.is, sym c.check_given-given.ensures ∙ c.in_default.is)
 
-check-results-requires : tie.Need-check-results-requires
+check-results-requires : tie.Need-check_results-requires
 check-results-requires c κs = search rules
 
-returns-2 : tie.Need-returns-2
+returns-2 : tie.Need-returns
 unfolding results_check
-returns-2 c = simp (sym c.before.before.before.check-given.ensures ∙ c.before.enum_told.given.1, c.check-results.ensures)
+returns-2 c = simp (sym c.check_given-given.ensures ∙ c.in-Fine.is, c.check_results.ensures)
 
-pub check-sheet-spec : {M : Type 1} → statement M
-check-sheet-spec =
+pub check_sheet_spec : {M : Type 1} → statement M
+check_sheet_spec =
     tie.close
     (tie.spec
     check-given-requires
