@@ -7,7 +7,7 @@ use mathlib.Core.Bool.{Bool, true, false}
 use native.Mathlib.Omega.{arith}
 use lib.ListN.{length, get_or}
 use Rattle.patterns.specs.Pattern.{leaf}
-use Rattle.patterns.specs.Walk.{same_symbol, Outcome, Outcome.reaches, steps, onward, walk}
+use Rattle.patterns.specs.Walk.{same_symbol, Outcome, steps, onward, walk}
 use Rattle.patterns.specs.declared.Leaf.TheVariants.{Blank}
 use Rattle.patterns.proofs.Steps.{steps_same, steps-blank}
 use Rattle.plain.specs.Plain.{Comes}

@@ -19,32 +19,32 @@ Next s = Counting s.args.arities.now s.args.rest.now (s.args.i + 1) (s.args.due 
 next : (s : tie.Start) → Next s
 next s = counting_next _ _ _ _ s.requires.1 s.requires.2
 
-mul-result : tie.Need-overflow-mul-result
+mul-result : tie.Need-offset_bounds-rest-i
 mul-result c = search rules
 
-shared-slice-read-result : tie.Need-shared-slice-read-result
+shared-slice-read-result : tie.Need-bounds-rest-i
 shared-slice-read-result c = search rules
 
-cast-result : tie.Need-overflow-cast-result
-cast-result c = omega (arith, c.shared-slice-known.given c.before.args.i)
+cast-result : tie.Need-overflow_cast-result
+cast-result c = omega (arith, c.shared_slice_known-1.given c.args.i)
 
-mul-result-2 : tie.Need-overflow-mul-result-2
-mul-result-2 c = omega (arith, c.shared-slice-known.given c.before.args.i)
+mul-result-2 : tie.Need-offset_bounds-arities-rest
+mul-result-2 c = omega (arith, c.shared_slice_known-1.given c.args.i)
 
-shared-slice-read-result-2 : tie.Need-shared-slice-read-result-2
+shared-slice-read-result-2 : tie.Need-bounds-arities-rest
 shared-slice-read-result-2 c = inside c.before.before
 
-cast-result-2 : tie.Need-overflow-cast-result-2
-cast-result-2 c = let s = c.before.before in omega (arith, c.shared-slice-known2.given (get_or s.args.rest.now s.args.i 0))
+cast-result-2 : tie.Need-overflow_cast-result-2
+cast-result-2 c = omega (arith, c.shared_slice_known-2-1.given (get_or c.args.rest.now c.args.i 0))
 
-add-result : tie.Need-overflow-add-result
-add-result c = let s = c.before.before in omega (arith, (next s).within, s.requires.0)
+add-result : tie.Need-overflow_add-result
+add-result c = omega (arith, (next c.before.before).within, c.requires.0)
 
 returns : tie.Need-returns
 returns c = next c.before.before
 
-pub due-after-spec : {M : Type 1} → statement M
-due-after-spec =
+pub due_after_spec : {M : Type 1} → statement M
+due_after_spec =
     tie.close
     (tie.spec
     mul-result

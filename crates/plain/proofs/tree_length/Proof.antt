@@ -11,114 +11,119 @@ use borrow.Author.Rules.{rules}
 use Rattle.plain.proofs.tree_length.Statement.{statement}
 use Rattle.plain.proofs.tree_length.Tie as tie
 
-abbrev invariant-loop : tie.invariant-loop
+abbrev invariant-loop : tie.invariant-loop-i
 invariant-loop arities rest due₀ i₀ due i = Counting arities rest i due
 
-abbrev decreases-loop : tie.decreases-loop
+abbrev decreases-loop : tie.decreases-loop-i
 decreases-loop arities rest due₀ i₀ due i = length rest - i
 
 -- in the body: the parameters, and what each of the symbols from i on is found to leave due
 abbrev Here : Type 0
-Here = tie.In-loop invariant-loop decreases-loop
-
-abbrev start : Here → tie.Start invariant-loop decreases-loop
-start h = h.before.before.before.before
+Here = tie.In-loop-i invariant-loop decreases-loop
 
 abbrev Counts : Here → ℕ → ℕ → Type 0
-Counts h = Counting (start h).args.arities.now (start h).args.rest.now
+Counts h = Counting h.args.arities.now h.args.rest.now
 
 abbrev at : Here → ℕ
-at h = h.before.loop.i
+at h = h.loop-i.i
 
-most : (h : Here) → length (start h).args.rest.now ≤ row_most
-most h = (start h).pre.0
+most : (h : Here) → length h.args.rest.now ≤ row_most
+most h = h.requires.0
 
-second : (c : tie.After-due-after invariant-loop decreases-loop) → Counts c.before (at c.before + 1) c.due-after.result
-second c = c.due-after.ensures
+second : (c : tie.After-due_after-second invariant-loop decreases-loop) → Counts c.before (at c.before + 1) c.due_after-second.result
+second c =
+    let s = c.before in
+    c.due_after-second.ensures
 
-third : (c : tie.After-due-after2 invariant-loop decreases-loop) → (let h = c.before.before.before in Counts h (at h + 2) c.due-after2.result)
+third : (c : tie.After-due_after-third invariant-loop decreases-loop) → (Counts c.before.before.before (at c.before.before.before + 2) c.due_after-third.result)
 third c =
     let h = c.before.before.before in
     let on : at h + 1 + 1 ≡ at h + 2 = omega arith in
-    subst (λ (n : ℕ). Counts h n c.due-after2.result) on c.due-after2.ensures
+    subst (λ (n : ℕ). Counts h n c.due_after-third.result) on c.due_after-third.ensures
 
-fourth : (c : tie.After-due-after3 invariant-loop decreases-loop) → (let h = c.before.before.before.before.before in Counts h (at h + 3) c.due-after3.result)
+fourth : (c : tie.After-due_after-fourth invariant-loop decreases-loop) → (Counts c.before.before.before.before.before (at c.before.before.before.before.before + 3) c.due_after-fourth.result)
 fourth c =
     let h = c.before.before.before.before.before in
     let on : at h + 2 + 1 ≡ at h + 3 = omega arith in
-    subst (λ (n : ℕ). Counts h n c.due-after3.result) on c.due-after3.ensures
+    subst (λ (n : ℕ). Counts h n c.due_after-fourth.result) on c.due_after-fourth.ensures
 
-last : (c : tie.After-due-after4 invariant-loop decreases-loop) → (let h = c.before.before.before.before.before.before.before in Counts h (at h + 4) c.due-after4.result)
+last : (c : tie.After-due_after-due invariant-loop decreases-loop) → (Counts c.before.before.before.before.before.before.before (at c.before.before.before.before.before.before.before + 4) c.due_after-due.result)
 last c =
     let h = c.before.before.before.before.before.before.before in
     let on : at h + 3 + 1 ≡ at h + 4 = omega arith in
-    subst (λ (n : ℕ). Counts h n c.due-after4.result) on c.due-after4.ensures
+    subst (λ (n : ℕ). Counts h n c.due_after-due.result) on c.due_after-due.ensures
 
-loop-holds : tie.Need-loop-init invariant-loop decreases-loop
-loop-holds c = counting_start _ _ c.before.before.requires.1
+loop-holds : tie.Need-loop-i-init invariant-loop decreases-loop
+loop-holds c = counting_start _ _ c.requires.1
 
-due-after-requires : tie.Need-due-after-requires invariant-loop decreases-loop
-due-after-requires c κs = (most c, c.before.loop.invariant, c.loop-test.true)
+due-after-requires : tie.Need-due_after-second-requires invariant-loop decreases-loop
+due-after-requires c κs = (most c, c.loop-i.invariant, c.loop-i-test.true)
 
-add-if1 : tie.Need-overflow-add-if1 invariant-loop decreases-loop
+add-if1 : tie.Need-overflow_add-i invariant-loop decreases-loop
 add-if1 c = search rules
 
-add-result : tie.Need-overflow-add-result invariant-loop decreases-loop
+add-result : tie.Need-overflow_add-result invariant-loop decreases-loop
 add-result c = search rules
 
-returns : tie.Need-returns invariant-loop decreases-loop
-returns c = counting_end _ _ _ _ (second c.before) (omega (arith, c.if1.true))
+returns : tie.Need-returns-then-second-i invariant-loop decreases-loop
+returns c = counting_end _ _ _ _ (second c.before) (omega (arith, c.if-second-i.true))
 
-add-due-after : tie.Need-overflow-add-due-after invariant-loop decreases-loop
+add-due-after : tie.Need-overflow_add-i-in-loop-i invariant-loop decreases-loop
 add-due-after c = search rules
 
-due-after-requires-2 : tie.Need-due-after-requires-2 invariant-loop decreases-loop
-due-after-requires-2 c κs = (most c.before.before, second c.before, omega (arith, (second c.before).on, c.if1.false))
+due-after-requires-2 : tie.Need-due_after-third-requires invariant-loop decreases-loop
+due-after-requires-2 c κs =
+    let s = c.before in
+    (most c.before.before, second s, omega (arith, (second s).on, c.if-second-i.false))
 
-add-if2 : tie.Need-overflow-add-if2 invariant-loop decreases-loop
+add-if2 : tie.Need-overflow_add-i-in-loop-i-2 invariant-loop decreases-loop
 add-if2 c = search rules
 
-add-result-2 : tie.Need-overflow-add-result-2 invariant-loop decreases-loop
+add-result-2 : tie.Need-overflow_add-result-then-third-i invariant-loop decreases-loop
 add-result-2 c = search rules
 
-returns-2 : tie.Need-returns-2 invariant-loop decreases-loop
-returns-2 c = counting_end _ _ _ _ (third c.before) (omega (arith, c.if2.true))
+returns-2 : tie.Need-returns-then-third-i invariant-loop decreases-loop
+returns-2 c = counting_end _ _ _ _ (third c.before) (omega (arith, c.if-third-i.true))
 
-add-due-after-2 : tie.Need-overflow-add-due-after-2 invariant-loop decreases-loop
+add-due-after-2 : tie.Need-overflow_add-i-in-loop-i-3 invariant-loop decreases-loop
 add-due-after-2 c = search rules
 
-due-after-requires-3 : tie.Need-due-after-requires-3 invariant-loop decreases-loop
-due-after-requires-3 c κs = (most c.before.before.before.before, third c.before, omega (arith, (third c.before).on, c.if2.false))
+due-after-requires-3 : tie.Need-due_after-fourth-requires invariant-loop decreases-loop
+due-after-requires-3 c κs =
+    let s = c.before in
+    (most c.before.before.before.before, third s, omega (arith, (third s).on, c.if-third-i.false))
 
-add-if3 : tie.Need-overflow-add-if3 invariant-loop decreases-loop
+add-if3 : tie.Need-overflow_add-i-in-loop-i-4 invariant-loop decreases-loop
 add-if3 c = search rules
 
-add-result-3 : tie.Need-overflow-add-result-3 invariant-loop decreases-loop
+add-result-3 : tie.Need-overflow_add-result-then-fourth-i invariant-loop decreases-loop
 add-result-3 c = search rules
 
-returns-3 : tie.Need-returns-3 invariant-loop decreases-loop
-returns-3 c = counting_end _ _ _ _ (fourth c.before) (omega (arith, c.if3.true))
+returns-3 : tie.Need-returns-then-fourth-i invariant-loop decreases-loop
+returns-3 c = counting_end _ _ _ _ (fourth c.before) (omega (arith, c.if-fourth-i.true))
 
-add-due-after-3 : tie.Need-overflow-add-due-after-3 invariant-loop decreases-loop
+add-due-after-3 : tie.Need-overflow_add-i-in-loop-i-5 invariant-loop decreases-loop
 add-due-after-3 c = search rules
 
-due-after-requires-4 : tie.Need-due-after-requires-4 invariant-loop decreases-loop
-due-after-requires-4 c κs = (most c.before.before.before.before.before.before, fourth c.before, omega (arith, (fourth c.before).on, c.if3.false))
+due-after-requires-4 : tie.Need-due_after-due-requires invariant-loop decreases-loop
+due-after-requires-4 c κs =
+    let s = c.before in
+    (most c.before.before.before.before.before.before, fourth s, omega (arith, (fourth s).on, c.if-fourth-i.false))
 
-add-i : tie.Need-overflow-add-i invariant-loop decreases-loop
+add-i : tie.Need-overflow_add-i-in-loop-i-6 invariant-loop decreases-loop
 add-i c = omega (arith, (last c).on, (last c).within)
 
-loop-less : tie.Need-loop-smaller invariant-loop decreases-loop
+loop-less : tie.Need-loop-i-smaller invariant-loop decreases-loop
 loop-less c = omega (arith, (last c).on, (last c).within)
 
-loop-again : tie.Need-loop-preserved invariant-loop decreases-loop
+loop-again : tie.Need-loop-i-preserved invariant-loop decreases-loop
 loop-again c = last c
 
-returns-4 : tie.Need-returns-4 invariant-loop decreases-loop
-returns-4 c = counting_end _ _ _ _ c.before.loop.invariant (omega (arith, c.loop-test.false))
+returns-4 : tie.Need-returns invariant-loop decreases-loop
+returns-4 c = counting_end _ _ _ _ c.loop-i.invariant (omega (arith, c.loop-i-test.false))
 
-pub tree-length-spec : {M : Type 1} → statement M
-tree-length-spec =
+pub tree_length_spec : {M : Type 1} → statement M
+tree_length_spec =
     tie.close
     (tie.spec
     invariant-loop
