@@ -8,7 +8,7 @@ use lib.ListN.{get_or, length, get_or-append, length-append}
 use lib.Seq.{get_or-append-add}
 use Rattle.rows.specs.Programme.{Alphabet, Programme}
 use Rattle.rows.specs.Tree.{Forest, Forest.none, Forest.grow, Tree, single, size, prefix, subtree_at}
-use Rattle.rows.specs.Parse.{parse, tree_of, table}
+use Rattle.rows.specs.Parse.{parse, tree_of}
 use Rattle.rows.proofs.Tree.{length-prefix}
 use Rattle.rows.proofs.Entry.{entry_first}
 use Rattle.rows.proofs.Subtrees.{subtree_first}

@@ -11,19 +11,18 @@ use native.Mathlib.Nat.{add-zero}
 use native.Mathlib.Numerals.{add-one}
 use borrow.Author.Tests.{eq-eqb, ne_eqb, eqb-true}
 use lib.Dec.{eqb, ltb→lt}
-use lib.ListN.{get_or, length, take, drop, set, take-append-drop, length-take}
-use lib.Seq.{take_at, get_or-set_same}
+use lib.ListN.{get_or, length, set}
+use lib.Seq.{get_or-set_same}
 use Rattle.rows.specs.Limits.{alphabet_most, first_variable, variables}
-use Rattle.rows.specs.Tree.{Forest, Forest.none, Forest.grow, Tree, single, size, count, prefix, Ranked}
+use Rattle.rows.specs.Tree.{Forest, Forest.none, Forest.grow, Tree, size, count, prefix, Ranked}
 use Rattle.rows.specs.Row.{pick, symbol, allowed}
 use Rattle.rows.specs.declared.Leaves.TheVariants.{Blanks}
-use Rattle.rows.proofs.Tree.{length-prefix}
 use Rattle.patterns.specs.Pattern.{leaf}
 use Rattle.patterns.specs.Walk.{agreeing, Outcome, Outcome.misses, Outcome.reaches, meets, takes, steps, onward, walk, MarksIn}
 use Rattle.patterns.specs.declared.Leaf.{Leaf}
 use Rattle.patterns.specs.declared.Leaf.TheVariants.{Plain, Blank, Variable}
 use Rattle.patterns.proofs.Leaves.{Kind, kind, plain_symbol, leaf-alone}
-use Rattle.patterns.proofs.Standing.{Stands, Planted, planted_row, planted_is, stands_symbol, stands_end, stands_children, stands_siblings, stands_first}
+use Rattle.patterns.proofs.Standing.{Stands, Planted, stands_symbol, stands_end, stands_children, stands_siblings, stands_first}
 use Rattle.patterns.proofs.Fits.{Fits, FitsLeaf}
 use Rattle.patterns.proofs.Agreeing.{agreeing_same, agreeing_all}
 use Rattle.patterns.proofs.Marks.{set_cases, marks_set, marks_wider, kept}

@@ -10,7 +10,7 @@ use Rattle.patterns.specs.Answers.{MatchesAt, Listed, spans}
 use Rattle.patterns.specs.Pattern.{leaf}
 use Rattle.patterns.specs.Searchable.{Checked, Searchable, BlankFrom}
 use Rattle.patterns.specs.Walk.{below, same_symbol, walk, unmarked, Decides, after_walk}
-use Rattle.patterns.specs.declared.Leaf.TheVariants.{Plain, Blank}
+use Rattle.patterns.specs.declared.Leaf.TheVariants.{Plain}
 use Rattle.patterns.specs.declared.Walked.{Walked}
 use Rattle.searches.specs.declared.Outline.{Outline}
 use Rattle.searches.specs.declared.Next.{Next}

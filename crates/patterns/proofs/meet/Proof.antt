@@ -1,7 +1,7 @@
 -- `patterns::meet` meets its contract: a first place is marked, at a later one the classes decide.
 -- Assumes nothing.
-use Prim.Native.Nat.{ℕ, zero, suc, ◌-◌, ◌<◌, ◌≤◌}
-use mathlib.Core.Path.{◌≡◌, refl, sym, ap, ◌∙◌}
+use Prim.Native.Nat.{suc, ◌-◌}
+use mathlib.Core.Path.{◌≡◌, sym, ap, ◌∙◌}
 use mathlib.Core.Bool.{Bool, true, false}
 use native.Mathlib.Omega.{arith}
 use borrow.Author.Tests.{eq-eqb, ne_eqb}
@@ -9,7 +9,6 @@ use lib.Dec.{eqb}
 use lib.ListN.{get_or}
 use Rattle.rows.specs.Row.{pick}
 use Rattle.patterns.specs.Walk.{met, marked}
-use Rattle.patterns.specs.declared.Stepped.{Stepped}
 use Rattle.patterns.specs.declared.Stepped.TheVariants.{To, Miss}
 use borrow.Author.Rules.{rules}
 use Rattle.patterns.proofs.meet.Statement.{statement}

@@ -1,14 +1,13 @@
 -- `patterns::miss_at` meets its contract, by the kind of the number.
 -- Assumes nothing.
-use Prim.Native.Nat.{ℕ, ◌-◌, ◌≤◌, ◌<◌}
-use mathlib.Core.Path.{◌≡◌, sym, ap, ◌∙◌, subst}
+use Prim.Native.Nat.{ℕ, ◌≤◌, ◌<◌}
+use mathlib.Core.Path.{◌≡◌, sym, ◌∙◌, subst}
 use native.Mathlib.Omega.{arith}
 use lib.ListN.{length, get_or}
 use Rattle.rows.specs.Limits.{variables}
 use Rattle.patterns.specs.Pattern.{leaf}
-use Rattle.patterns.specs.Walk.{steps, Misses, Outcome.misses}
+use Rattle.patterns.specs.Walk.{steps, Misses}
 use Rattle.patterns.specs.declared.Leaf.TheVariants.{Variable}
-use Rattle.patterns.specs.declared.Walked.{Walked}
 use Rattle.patterns.proofs.Steps.{variable_small, steps_plain, blank_fits, variable_misses}
 use borrow.Author.Rules.{rules}
 use Rattle.patterns.proofs.miss_at.Statement.{statement}
