@@ -6,7 +6,7 @@ use mathlib.Core.List.{List, ◌∷◌}
 use native.Mathlib.Omega.{arith}
 use lib.ListN.{length, get_or}
 use Rattle.rows.specs.Tree.{Forest, Forest.none, Forest.grow, Tree, count, size, subtree_at}
-use Rattle.rows.specs.Parse.{first, rest, over, parse, behind}
+use Rattle.rows.specs.Parse.{first, over, parse, behind}
 use Rattle.rows.specs.Row.{allowed}
 use Rattle.rows.specs.declared.Leaves.TheVariants.{Symbols}
 use Rattle.rows.proofs.Tree.{count-first}

@@ -5,7 +5,6 @@ use mathlib.Core.Path.{◌≡◌, refl, sym, ap, ◌∙◌}
 use mathlib.Core.List.{List, ◌∷◌, ◌++◌, append_assoc, append-nil}
 use mathlib.Core.Bool.{Bool}
 use native.Mathlib.Nat.{add-zero, suc-add, not-suc-le-zero}
-use native.Mathlib.Decide.{dec_lt}
 use native.Mathlib.Omega.{arith}
 use lib.ListN.{length, take, drop, get_or, get_or-append}
 use lib.Seq.{take-append-le, drop-append-le, take-append-add, drop-append-add, drop_at, get_or-append-add}

@@ -1,6 +1,5 @@
 -- `edits::replace_beside` meets its contract: the classes are those of the row that the replacement leaves.
 -- Assumes nothing.
-use mathlib.Core.Path.{◌≡◌}
 use native.Mathlib.Omega.{arith}
 use Rattle.edits.proofs.Replace.{changed_right, reclassed}
 use borrow.Author.Rules.{rules}
