@@ -25,78 +25,74 @@ P s = programme s.args.row.now s.args.table.now s.args.classes.now
 abbrev q : tie.Start → List ℕ
 q s = s.args.pattern.now
 
-fine : (c : tie.After-enum-told) → pattern c.before.before.before.before.before.before.before.before.before.before.args.arities.now (q c.before.before.before.before.before.before.before.before.before.before) ≡ Fine
-fine c = sym c.before.before.check-pattern.ensures ∙ c.enum_told.given.1
+fine : (c : tie.In-Fine) → pattern c.args.arities.now (q c.before.before.before.before.before.before.before.before.before) ≡ Fine
+fine c = sym c.check_pattern.ensures ∙ c.in-Fine.is
 
-check-pattern-requires : tie.Need-check-pattern-requires
+check-pattern-requires : tie.Need-check_pattern-requires
 check-pattern-requires c κs = search rules
 
-enum-known-r : tie.Need-enum-known-r
+enum-known-r : tie.Need-enum_known-r
 enum-known-r c = search rules
 
-write-refusal-requires : tie.Need-write-refusal-requires
+write-refusal-requires : tie.Need-write_refusal-requires
 write-refusal-requires c κs =
-    let s = c.before.before.before.before.before.before.before.before.before.before.before.before in
-    let small = pattern-small s.args.arities.now (q s) _ (sym c.before.before.before.before.check-pattern.ensures ∙ c.before.before.r.given.1) in
-    (omega (arith, small.0), omega (arith, small.1, s.requires.1), s.requires.2)
+    let small = pattern-small c.args.arities.now (q c.before.before.before.before.before.before.before.before.before.before) _ (sym c.check_pattern.ensures ∙ c.in-Refused.is) in
+    (omega (arith, small.0), omega (arith, small.1, c.requires.1), c.requires.2)
 
-enum_told : tie.Need-enum-told
+enum_told : tie.Need-enum_told-1
 enum_told c = search rules
 
-list-matches-requires : tie.Need-list-matches-requires
-list-matches-requires c κs = let s = c.before.before.before.before.before.before.before.before.before.before.before in (a s, fine_checked (a s) (P s) s.requires.0 (q s) (fine c.before))
+list-matches-requires : tie.Need-list_matches-requires
+list-matches-requires c κs =
+    let s = c.before.before.before.before.before.before.before.before.before.before in
+    (a s, fine_checked (a s) (P s) c.requires.0 (q s) (fine c.before))
 
-enum-known-n : tie.Need-enum-known-n
+enum-known-n : tie.Need-enum_known-n
 enum-known-n c = search rules
 
-enum-known-n-2 : tie.Need-enum-known-n-2
+enum-known-n-2 : tie.Need-enum_known-n-in-Needs-1
 enum-known-n-2 c = search rules
 
 -- the list, with the number that is counted
-module _ (c : tie.At-match2-branch) where
-  abbrev s : tie.Start
-  s = c.before.before.before.before.before.before.before.before.before.before.before.before.before.before.before
-
-  abbrev e : pattern s.args.arities.now (q s) ≡ Fine
+module _ (c : tie.Joined-list_matches) where
+  abbrev e : pattern c.args.arities.now (q c.before.before.before.before.before.before.before.before.before.before.before.before.before.before) ≡ Fine
   e = fine c.before.before.before.before.before
 
-  abbrev l : tie.After-list-matches
-  l = c.before.before.before
+  abbrev checked : Checked (a c.before.before.before.before.before.before.before.before.before.before.before.before.before.before) (P c.before.before.before.before.before.before.before.before.before.before.before.before.before.before) (q c.before.before.before.before.before.before.before.before.before.before.before.before.before.before)
+  checked = fine_checked (a c.before.before.before.before.before.before.before.before.before.before.before.before.before.before) (P c.before.before.before.before.before.before.before.before.before.before.before.before.before.before) c.requires.0 (q c.before.before.before.before.before.before.before.before.before.before.before.before.before.before) e
 
-  abbrev checked : Checked (a s) (P s) (q s)
-  checked = fine_checked (a s) (P s) s.pre.0 (q s) e
+  counted : (c.list_matches.result ≡ All c.match-list_matches.count) ⊎ (c.list_matches.result ≡ Needs c.match-list_matches.count)
+  counted = ⊎_elim (λ h. inl (h.in-All.is ∙ ap All (sym h.count-is))) (λ h. inr (h.in-Needs.is ∙ ap Needs (sym h.count-is))) c.match-list_matches.branch-raw
 
-  counted : (l.list-matches.result ≡ All c.match2.count) ⊎ (l.list-matches.result ≡ Needs c.match2.count)
-  counted = ⊎_elim (λ h. inl (h.1.given.1 ∙ ap All (sym h.3))) (λ h. inr (h.1.given.1 ∙ ap Needs (sym h.3))) c.match2.branch
-
-write-result-requires : tie.Need-write-result-requires
+write-result-requires : tie.Need-write_result-requires
 write-result-requires c κs =
-    let s = c.before.before.before.before.before.before.before.before.before.before.before.before.before.before.before.before in
-    let n = told_count (a s) (P s) s.requires.0 (q s) (e c.before) _ _ _ ((l c.before).list-matches.ensures (a s) (checked c.before)) _ (counted c.before) in
-    (omega arith, omega arith, omega (arith, n, alone_most (a s) (P s) s.requires.0 (q s), row_most_lem (a s) (P s) s.requires.0), s.requires.2)
+    let i = c.before in
+    let s = c.before.before.before.before.before.before.before.before.before.before.before.before.before.before.before in
+    let n = told_count (a s) (P s) c.requires.0 (q s) (e i) _ _ _ (c.list_matches.ensures (a s) (checked i)) _ (counted i) in
+    (omega arith, omega arith, omega (arith, n, alone_most (a s) (P s) c.requires.0 (q s), row_most_lem (a s) (P s) c.requires.0), c.requires.2)
 
-same_length : tie.Need-same-length
+same_length : tie.Need-shape_of-results-in-Refused
 same_length c = search rules
 
-returns : tie.Need-returns
+returns : tie.Need-returns-in-Refused
 returns c =
-    let s = c.before.before.before.before.before.before.before.before.before.before.before.before.before.before.before in
-    refused-answered (a s) (P s) s.requires.0 (q s) s.args.out.now s.args.i s.args.results.now _ (sym c.before.before.before.before.before.before.before.check-pattern.ensures ∙ c.before.before.before.before.before.r.given.1) _ c.before.before.write-refusal.ensures
+    let s = c.before.before.before.before.before.before.before.before.before.before.before.before.before in
+    refused-answered (a s) (P s) c.requires.0 (q s) c.args.out.now c.args.i c.args.results.now _ (sym c.check_pattern.ensures ∙ c.in-Refused.is) _ c.write_refusal.ensures
 
-same-length-2 : tie.Need-same-length-2
+same-length-2 : tie.Need-shape_of-out
 same-length-2 c = search rules
 
-same-length-3 : tie.Need-same-length-3
+same-length-3 : tie.Need-shape_of-results-after-list_matches
 same-length-3 c = search rules
 
-returns-2 : tie.Need-returns-2
+returns-2 : tie.Need-returns-after-list_matches
 returns-2 c =
-    let m = c.before.before.before.before in
-    let s = c.before.before.before.before.before.before.before.before.before.before.before.before.before.before.before.before.before.before.before in
-    listed_answered (a s) (P s) s.requires.0 (q s) (e m) _ _ _ ((l m).list-matches.ensures (a s) (checked m)) _ s.args.i s.args.results.now _ (counted m) c.before.before.write-result.ensures
+    let s = c.before.before.before.before in
+    let m = c.before.before.before.before.before.before.before.before.before.before.before.before.before.before.before.before.before.before in
+    listed_answered (a m) (P m) c.requires.0 (q m) (e s) _ _ _ (c.list_matches.ensures (a m) (checked s)) _ c.args.i c.args.results.now _ (counted s) c.write_result.ensures
 
-pub answer-pattern-spec : {M : Type 1} → statement M
-answer-pattern-spec =
+pub answer_pattern_spec : {M : Type 1} → statement M
+answer_pattern_spec =
     tie.close
     (tie.spec
     check-pattern-requires

@@ -9,26 +9,25 @@ use borrow.Author.Rules.{rules}
 use Rattle.sheets.proofs.write_refusal.Statement.{statement}
 use Rattle.sheets.proofs.write_refusal.Tie as tie
 
-number-of-requires : tie.Need-number-of-requires
+number-of-requires : tie.Need-number_of-number-requires
 number-of-requires c κs = search rules
 
-place-of-requires : tie.Need-place-of-requires
+place-of-requires : tie.Need-place_of-place-requires
 place-of-requires c κs = search rules
 
-write-result-requires : tie.Need-write-result-requires
+write-result-requires : tie.Need-write_result-requires
 write-result-requires c κs = search rules
 
-same_length : tie.Need-same-length
+same_length : tie.Need-shape_of-results
 same_length c = search rules
 
 returns : tie.Need-returns
 returns c =
-    let s = c.before.before.before.before.before.before.before in
-    c.before.before.write-result.ensures
-    ∙ ap₂ (λ (n p : ℕ). written s.args.results.now (result_places * s.args.i) (n ∷ p ∷ 0 ∷ [])) c.before.before.before.before.before.number_of_lem.ensures c.before.before.before.before.place_of.ensures
+    c.write_result.ensures
+    ∙ ap₂ (λ (n p : ℕ). written c.args.results.now (result_places * c.args.i) (n ∷ p ∷ 0 ∷ [])) c.number_of-number.ensures c.place_of-place.ensures
 
-pub write-refusal-spec : {M : Type 1} → statement M
-write-refusal-spec =
+pub write_refusal_spec : {M : Type 1} → statement M
+write_refusal_spec =
     tie.close
     (tie.spec
     number-of-requires

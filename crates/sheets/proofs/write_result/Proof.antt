@@ -13,43 +13,43 @@ use borrow.Author.Rules.{rules}
 use Rattle.sheets.proofs.write_result.Statement.{statement}
 use Rattle.sheets.proofs.write_result.Tie as tie
 
-mul_at : tie.Need-overflow-mul-at
+mul_at : tie.Need-overflow_mul-at
 mul_at c = search rules
 
-cast-results : tie.Need-overflow-cast-results
+cast-results : tie.Need-overflow_cast-results
 cast-results c = search rules
 
-mul-results : tie.Need-overflow-mul-results
+mul-results : tie.Need-offset_bounds-results-at
 mul-results c = search rules
 
-slice-write-results : tie.Need-slice-write-results
+slice-write-results : tie.Need-bounds-results-at
 slice-write-results c = search rules
 
-cast-results-2 : tie.Need-overflow-cast-results-2
+cast-results-2 : tie.Need-overflow_cast-results-2
 cast-results-2 c = search rules
 
-add-results : tie.Need-overflow-add-results
+add-results : tie.Need-overflow_add-results
 add-results c = search rules
 
-mul-results-2 : tie.Need-overflow-mul-results-2
+mul-results-2 : tie.Need-offset_bounds-results-at-2
 mul-results-2 c = search rules
 
-slice-write-results-2 : tie.Need-slice-write-results-2
+slice-write-results-2 : tie.Need-bounds-results-at-2
 slice-write-results-2 c = simp length-set (omega (arith, c.requires.3))
 
-cast-results-3 : tie.Need-overflow-cast-results-3
+cast-results-3 : tie.Need-overflow_cast-results-3
 cast-results-3 c = search rules
 
-add-results-2 : tie.Need-overflow-add-results-2
+add-results-2 : tie.Need-overflow_add-results-2
 add-results-2 c = search rules
 
-mul-results-3 : tie.Need-overflow-mul-results-3
+mul-results-3 : tie.Need-offset_bounds-results-at-3
 mul-results-3 c = search rules
 
-slice-write-results-3 : tie.Need-slice-write-results-3
+slice-write-results-3 : tie.Need-bounds-results-at-3
 slice-write-results-3 c = simp length-set (omega (arith, c.requires.3))
 
-same_length : tie.Need-same-length
+same_length : tie.Need-shape_of-results
 same_length c = search rules
 
 returns : tie.Need-returns
@@ -65,8 +65,8 @@ returns c =
     ∙ ap (λ (b : List ℕ). set b (at + 2) n) (written_snoc z at (x ∷ []) y (omega (arith, c.requires.3)))
     ∙ written_snoc z at (x ∷ y ∷ []) n (omega (arith, c.requires.3))
 
-pub write-result-spec : {M : Type 1} → statement M
-write-result-spec =
+pub write_result_spec : {M : Type 1} → statement M
+write_result_spec =
     tie.close
     (tie.spec
     mul_at
