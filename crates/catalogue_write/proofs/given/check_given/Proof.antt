@@ -13,77 +13,71 @@ use Rattle.catalogue_write.proofs.given.check_given.Statement.{statement}
 use Rattle.catalogue_write.proofs.given.check_given.Tie as tie
 
 -- there are few programmes, where the alphabet is looked at
-enough : (c : tie.After-enum-told) → few (length c.before.before.before.before.before.before.args.numbers.now) ≡ Fine
-enough c = sym c.before.before.check-few.ensures ∙ c.enum_told.given.1
+enough : (c : tie.In-Fine) → few (length c.args.numbers.now) ≡ Fine
+enough c = sym c.check_few.ensures ∙ c.in-Fine.is
 
 -- the alphabet is fine, where the numbers are looked at
-sound : (c : tie.After-enum-told2) → let a = c.before.before.before.before.before.before.before.before.before.args in
+sound : (c : tie.In-Fine-check_alphabet) → let a = c.args in
     alphabet (alphabet_of a.arities.now) ≡ Fine
-sound c = sym c.before.before.check-alphabet.ensures ∙ c.enum-told2.given.1
+sound c = sym c.check_alphabet.ensures ∙ c.in-Fine-check_alphabet.is
 
 -- the numbers rise, where the sizes are looked at
-rise : (c : tie.After-enum-told3) → let a = c.before.before.before.before.before.before.before.before.before.before.before.before.args in
+rise : (c : tie.In-Fine-check_rising) → let a = c.args in
     rises 1 0 0 a.numbers.now ≡ Fine
-rise c = sym c.before.before.check-rising.ensures ∙ c.enum-told3.given.1
+rise c = sym c.check_rising.ensures ∙ c.in-Fine-check_rising.is
 
-check-few-requires : tie.Need-check-few-requires
+check-few-requires : tie.Need-check_few-requires
 check-few-requires c κs = search rules
 
-enum-known-r : tie.Need-enum-known-r
+enum-known-r : tie.Need-enum_known-r
 enum-known-r c = search rules
 
-enum_told : tie.Need-enum-told
+enum_told : tie.Need-enum_told-1
 enum_told c = search rules
 
-check-alphabet-requires : tie.Need-check-alphabet-requires
+check-alphabet-requires : tie.Need-check_alphabet-requires
 check-alphabet-requires c κs = search rules
 
-enum-known-r-2 : tie.Need-enum-known-r-2
+enum-known-r-2 : tie.Need-enum_known-r-in-Refused-check_alphabet
 enum-known-r-2 c = search rules
 
-enum-told-2 : tie.Need-enum-told-2
+enum-told-2 : tie.Need-enum_told-in-Fine-check_alphabet
 enum-told-2 c = search rules
 
-check-rising-requires : tie.Need-check-rising-requires
+check-rising-requires : tie.Need-check_rising-requires
 check-rising-requires c κs = search rules
 
-enum-known-r-3 : tie.Need-enum-known-r-3
+enum-known-r-3 : tie.Need-enum_known-r-in-Refused-check_rising
 enum-known-r-3 c = search rules
 
-enum-told-3 : tie.Need-enum-told-3
+enum-told-3 : tie.Need-enum_told-in-Fine-check_rising
 enum-told-3 c = search rules
 
-check-sizes-requires : tie.Need-check-sizes-requires
+check-sizes-requires : tie.Need-check_sizes-requires
 check-sizes-requires c κs =
-    let d = c.before.before.before in
-    (symbols_most _ (sound d), few_most _ (enough d.before.before.before))
+    (symbols_most _ (sound c.before.before), few_most _ (enough c.before.before.before.before))
 
-returns : tie.Need-returns
+returns : tie.Need-returns-in-Refused
 unfolding given_fits
-returns c = simp (sym c.before.before.before.check-few.ensures ∙ c.before.r.given.1)
+returns c = simp (sym c.check_few.ensures ∙ c.in-Refused.is)
 
-returns-2 : tie.Need-returns-2
+returns-2 : tie.Need-returns-in-Refused-check_alphabet
 unfolding given_fits
 returns-2 c =
-    let d = c.before.before.before in
-    simp (enough d.before, sym d.check-alphabet.ensures ∙ c.before.r2.given.1)
+    simp (enough c.before.before, sym c.check_alphabet.ensures ∙ c.in-Refused-check_alphabet.is)
 
-returns-3 : tie.Need-returns-3
+returns-3 : tie.Need-returns-in-Refused-check_rising
 unfolding given_fits
 returns-3 c =
-    let d = c.before.before.before in
-    let e = d.before in
-    simp (enough e.before.before.before, sound e, sym d.check-rising.ensures ∙ c.before.r3.given.1)
+    simp (enough c.before.before.before.before, sound c.before.before, sym c.check_rising.ensures ∙ c.in-Refused-check_rising.is)
 
-returns-4 : tie.Need-returns-4
+returns-4 : tie.Need-returns-in-Fine-check_rising
 unfolding given_fits
 returns-4 c =
-    let d = c.before in
-    let e = d.before.before.before in
-    c.check-sizes.ensures ∙ simp (enough e.before.before.before, sound e, rise d)
+    c.check_sizes.ensures ∙ simp (enough c.before.before.before.before.before, sound c.before.before.before, rise c.before)
 
-pub check-given-spec : {M : Type 1} → statement M
-check-given-spec =
+pub check_given_spec : {M : Type 1} → statement M
+check_given_spec =
     tie.close
     (tie.spec
     check-few-requires

@@ -16,63 +16,62 @@ use borrow.Author.Rules.{rules}
 use Rattle.catalogue_write.proofs.given.check_rising.Statement.{statement}
 use Rattle.catalogue_write.proofs.given.check_rising.Tie as tie
 
-abbrev invariant-loop : tie.invariant-loop
+abbrev invariant-loop : tie.invariant-loop-k
 invariant-loop numbers least₀ k₀ least k =
     (k ≤ length numbers) × (least ≤ 4294967296) × (rises 1 0 0 numbers ≡ rises 1 k least (drop k numbers))
 
-abbrev decreases-loop : tie.decreases-loop
+abbrev decreases-loop : tie.decreases-loop-k
 decreases-loop numbers least₀ k₀ least k = length numbers - k
 
-module _ (l : tie.At-loop invariant-loop decreases-loop) where
+module _ (l : tie.At-loop-k invariant-loop decreases-loop) where
   abbrev ns : List ℕ
-  ns = l.before.before.args.numbers.now
+  ns = l.args.numbers.now
 
   -- what the check says from k on, by the number there
-  step : l.loop.k < length ns
+  step : l.loop-k.k < length ns
       → rises 1 0 0 ns
-      ≡ pick (ltb (get_or ns l.loop.k 0) l.loop.least) (Refused (Fault (NotRising l.loop.k)))
-      (rises 1 (l.loop.k + 1) (get_or ns l.loop.k 0 + 1) (drop (l.loop.k + 1) ns))
-  step h = l.loop.inv.2 ∙ rising_at ns l.loop.k l.loop.least h
+      ≡ pick (ltb (get_or ns l.loop-k.k 0) l.loop-k.least) (Refused (Fault (NotRising l.loop-k.k)))
+      (rises 1 (l.loop-k.k + 1) (get_or ns l.loop-k.k 0 + 1) (drop (l.loop-k.k + 1) ns))
+  step h = l.loop-k.invariant.2 ∙ rising_at ns l.loop-k.k l.loop-k.least h
 
-loop-holds : tie.Need-loop-init invariant-loop decreases-loop
+loop-holds : tie.Need-loop-k-init invariant-loop decreases-loop
 loop-holds c = (search rules, search rules, refl)
 
-mul-widen : tie.Need-overflow-mul-widen invariant-loop decreases-loop
+mul-widen : tie.Need-offset_bounds-numbers-k invariant-loop decreases-loop
 mul-widen c = search rules
 
-shared-slice-read-widen : tie.Need-shared-slice-read-widen invariant-loop decreases-loop
+shared-slice-read-widen : tie.Need-bounds-numbers-k invariant-loop decreases-loop
 shared-slice-read-widen c = search rules
 
-widen-requires : tie.Need-widen-requires invariant-loop decreases-loop
+widen-requires : tie.Need-widen-number-requires invariant-loop decreases-loop
 widen-requires c κs = search rules
 
-returns : tie.Need-returns invariant-loop decreases-loop
+returns : tie.Need-returns-then-number-least invariant-loop decreases-loop
 returns c =
-    simp (step c.before.before.before.before (search rules), sym c.before.widen.ensures.0, lt-ltb _ _ c.if1.true)
+    simp (step c.before.before.before.before (search rules), sym c.widen-number.ensures.0, lt-ltb _ _ c.if-number-least.true)
 
-add-least : tie.Need-overflow-add-least invariant-loop decreases-loop
+add-least : tie.Need-overflow_add-least invariant-loop decreases-loop
 add-least c = search rules
 
-add-k : tie.Need-overflow-add-k invariant-loop decreases-loop
+add-k : tie.Need-overflow_add-k invariant-loop decreases-loop
 add-k c = search rules
 
-loop-less : tie.Need-loop-smaller invariant-loop decreases-loop
+loop-less : tie.Need-loop-k-smaller invariant-loop decreases-loop
 loop-less c = search rules
 
-loop-again : tie.Need-loop-preserved invariant-loop decreases-loop
+loop-again : tie.Need-loop-k-preserved invariant-loop decreases-loop
 loop-again c = (
   search rules,
   search rules,
-  step c.before.before.before.before (search rules) ∙ simp (sym c.before.widen.ensures.0, le-ltb _ _ c.if1.false),
+  step c.before.before.before.before (search rules) ∙ simp (sym c.widen-number.ensures.0, le-ltb _ _ c.if-number-least.false),
 )
 
-returns-2 : tie.Need-returns-2 invariant-loop decreases-loop
+returns-2 : tie.Need-returns invariant-loop decreases-loop
 returns-2 c =
-    let l = c.before in
-    sym (l.loop.invariant.2 ∙ rising_done (ns l) l.loop.k l.loop.least (search rules))
+    sym (c.loop-k.invariant.2 ∙ rising_done (ns c.before) c.loop-k.k c.loop-k.least (search rules))
 
-pub check-rising-spec : {M : Type 1} → statement M
-check-rising-spec =
+pub check_rising_spec : {M : Type 1} → statement M
+check_rising_spec =
     tie.close
     (tie.spec
     invariant-loop

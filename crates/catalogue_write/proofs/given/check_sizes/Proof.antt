@@ -10,41 +10,39 @@ use Rattle.catalogue_write.proofs.given.check_sizes.Statement.{statement}
 use Rattle.catalogue_write.proofs.given.check_sizes.Tie as tie
 
 -- the lengths fit, where the size is worked out
-fine : (c : tie.After-enum-told) → let a = c.before.before.before.before.before.before.args in
+fine : (c : tie.In-Fine) → let a = c.args in
     lengths_fit a.numbers.now a.lengths.now a.m ≡ Fine
-fine c = sym c.before.before.check-lengths.ensures ∙ c.enum_told.given.1
+fine c = sym c.check_lengths.ensures ∙ c.in-Fine.is
 
-check-lengths-requires : tie.Need-check-lengths-requires
+check-lengths-requires : tie.Need-check_lengths-requires
 check-lengths-requires c κs = search rules
 
-enum-known-r : tie.Need-enum-known-r
+enum-known-r : tie.Need-enum_known-r
 enum-known-r c = search rules
 
-enum_told : tie.Need-enum-told
+enum_told : tie.Need-enum_told-1
 enum_told c = search rules
 
-size-of-requires : tie.Need-size-of-requires
-size-of-requires c κs =
-    let k = c.before.before.before in
-    let a = k.before.before.before in (
-      a.requires.0,
-      a.requires.1,
-      sum_most a.args.numbers.now a.args.lengths.now a.args.m (fine c) a.requires.1 (λ i. (k.shared-slice-known3.given i).fits),
-    )
+size-of-requires : tie.Need-size_of-size-requires
+size-of-requires c κs = (
+  c.requires.0,
+  c.requires.1,
+  sum_most c.args.numbers.now c.args.lengths.now c.args.m (fine c) c.requires.1 (λ i. (c.shared_slice_known-3-1.given i).fits),
+)
 
-returns : tie.Need-returns
+returns : tie.Need-returns-then-size-gt-FILE_MOST
 unfolding file_size
-returns c = simp (fine c.before.before, sym c.before.type_size.ensures, lt-ltb _ _ c.if1.true)
+returns c = simp (fine c.before.before, sym c.size_of-size.ensures, lt-ltb _ _ c.if-size-gt-FILE_MOST.true)
 
-returns-2 : tie.Need-returns-2
-returns-2 c = simp (sym c.before.before.before.check-lengths.ensures ∙ c.before.r.given.1)
+returns-2 : tie.Need-returns-in-Refused
+returns-2 c = simp (sym c.check_lengths.ensures ∙ c.in-Refused.is)
 
-returns-3 : tie.Need-returns-3
+returns-3 : tie.Need-returns-else-size-gt-FILE_MOST
 unfolding file_size
-returns-3 c = simp (fine c.before.before, sym c.before.type_size.ensures, le-ltb _ _ c.if1.false)
+returns-3 c = simp (fine c.before.before, sym c.size_of-size.ensures, le-ltb _ _ c.if-size-gt-FILE_MOST.false)
 
-pub check-sizes-spec : {M : Type 1} → statement M
-check-sizes-spec =
+pub check_sizes_spec : {M : Type 1} → statement M
+check_sizes_spec =
     tie.close
     (tie.spec
     check-lengths-requires

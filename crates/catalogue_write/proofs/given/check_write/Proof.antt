@@ -11,56 +11,56 @@ use Rattle.catalogue_write.proofs.given.check_write.Statement.{statement}
 use Rattle.catalogue_write.proofs.given.check_write.Tie as tie
 
 -- what is given fits, where the rows are looked at
-fits : (c : tie.After-enum-told) → let a = c.before.before.before.before.before.before.before.args in
+fits : (c : tie.In-Fine) → let a = c.args in
     given_fits a.arities.now a.numbers.now a.lengths.now (length a.rows.now) ≡ Fine
-fits c = sym c.before.before.check-given.ensures ∙ c.enum_told.given.1
+fits c = sym c.check_given.ensures ∙ c.in-Fine.is
 
 -- the rows fit, where the room is looked at
-whole : (c : tie.After-enum-told2) → let a = c.before.before.before.before.before.before.before.before.before.before.args in
+whole : (c : tie.In-Fine-check_rows) → let a = c.args in
     rows_fit a.arities.now (numbered a.numbers.now a.lengths.now a.rows.now) ≡ Fine
-whole c = sym c.before.before.check-rows.ensures ∙ c.enum-told2.given.1
+whole c = sym c.check_rows.ensures ∙ c.in-Fine-check_rows.is
 
-check-given-requires : tie.Need-check-given-requires
+check-given-requires : tie.Need-check_given-requires
 check-given-requires c κs = search rules
 
-enum-known-r : tie.Need-enum-known-r
+enum-known-r : tie.Need-enum_known-r
 enum-known-r c = search rules
 
-enum_told : tie.Need-enum-told
+enum_told : tie.Need-enum_told-1
 enum_told c = search rules
 
-check-rows-requires : tie.Need-check-rows-requires
+check-rows-requires : tie.Need-check_rows-requires
 check-rows-requires c κs = given_is _ _ _ _ (fits c)
 
-enum-known-r-2 : tie.Need-enum-known-r-2
+enum-known-r-2 : tie.Need-enum_known-r-in-Refused-check_rows
 enum-known-r-2 c = search rules
 
-enum-told-2 : tie.Need-enum-told-2
+enum-told-2 : tie.Need-enum_told-in-Fine-check_rows
 enum-told-2 c = search rules
 
-size-of-requires : tie.Need-size-of-requires
+size-of-requires : tie.Need-size_of-requires
 size-of-requires c κs =
-    let h = fits c.before.before.before in
+    let h = fits c.before.before in
     (symbols-few _ _ _ _ h, (given_is _ _ _ _ h).few, omega (arith, rows_few _ _ _ _ h))
 
-check-room-requires : tie.Need-check-room-requires
+check-room-requires : tie.Need-check_room-requires
 check-room-requires c κs = search rules
 
-returns : tie.Need-returns
+returns : tie.Need-returns-in-Refused
 unfolding write_check
-returns c = simp (sym c.before.before.before.check-given.ensures ∙ c.before.r.given.1)
+returns c = simp (sym c.check_given.ensures ∙ c.in-Refused.is)
 
-returns-2 : tie.Need-returns-2
+returns-2 : tie.Need-returns-in-Refused-check_rows
 unfolding write_check
-returns-2 c = simp (fits c.before.before.before.before, sym c.before.before.before.check-rows.ensures ∙ c.before.r2.given.1)
+returns-2 c = simp (fits c.before.before, sym c.check_rows.ensures ∙ c.in-Refused-check_rows.is)
 
-returns-3 : tie.Need-returns-3
+returns-3 : tie.Need-returns-in-Fine-check_rows
 unfolding write_check
 returns-3 c =
-    simp (fits c.before.before.before.before.before, whole c.before.before, sym c.before.type_size.ensures) c.check-room.ensures
+    simp (fits c.before.before.before.before, whole c.before.before, sym c.size_of.ensures) c.check_room.ensures
 
-pub check-write-spec : {M : Type 1} → statement M
-check-write-spec =
+pub check_write_spec : {M : Type 1} → statement M
+check_write_spec =
     tie.close
     (tie.spec
     check-given-requires

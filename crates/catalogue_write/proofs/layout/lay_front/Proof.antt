@@ -18,58 +18,54 @@ use Rattle.catalogue_write.proofs.layout.lay_front.Tie as tie
 room : (a : tie.Start) → Room a.args.arities.now a.args.numbers.now a.args.lengths.now a.args.file.now
 room a = room_is a.args.arities.now a.args.numbers.now a.args.lengths.now a.args.file.now a.requires
 
-cast-put-half : tie.Need-overflow-cast-put-half
+cast-put-half : tie.Need-overflow_cast-numbers
 cast-put-half c = search rules
 
-put-half-requires : tie.Need-put-half-requires
+put-half-requires : tie.Need-put_half-requires
 put-half-requires c κs = omega (arith, (room c.before.before.before.before.before).fits)
 
-cast-put-half-2 : tie.Need-overflow-cast-put-half-2
+cast-put-half-2 : tie.Need-overflow_cast-arities
 cast-put-half-2 c = search rules
 
-put-half-requires-2 : tie.Need-put-half-requires-2
+put-half-requires-2 : tie.Need-put_half-requires-2
 put-half-requires-2 c κs = omega (arith, (room c.before.before.before.before.before.before.before.before.before).fits)
 
-mul_at : tie.Need-overflow-mul-at
+mul_at : tie.Need-overflow_mul-at
 mul_at c = search rules
 
-add_at : tie.Need-overflow-add-at
+add_at : tie.Need-overflow_add-at
 add_at c = search rules
 
-add-put-contents : tie.Need-overflow-add-put-contents
+add-put-contents : tie.Need-overflow_add-at-2
 add-put-contents c = search rules
 
-put-contents-requires : tie.Need-put-contents-requires
+put-contents-requires : tie.Need-put_contents-requires
 put-contents-requires c κs =
     let a = c.before.before.before.before.before.before.before.before.before.before.before.before.before in
-    (a.requires.many, omega (arith, (room a).ranges), omega (arith, (room a).size))
+    (c.requires.many, omega (arith, (room a).fits), omega (arith, (room a).size))
 
-put-arities-requires : tie.Need-put-arities-requires
+put-arities-requires : tie.Need-put_arities-requires
 put-arities-requires c κs =
-    let a = c.before.before.before.before.before.before.before.before.before.before.before.before.before.before.before.before.before in
-    (omega (arith, (room a).ranges), a.requires.small)
+    (omega (arith, (room c.before.before.before.before.before.before.before.before.before.before.before.before.before.before.before.before.before).fits), c.requires.small)
 
-same_length : tie.Need-same-length
+same_length : tie.Need-shape_of-file
 same_length c = search rules
 
 returns : tie.Need-returns
 returns c =
-    let d = c.before.before.before.before.before.before in
-    let h = d.before.before.before.before in
-    let a = h.before.before.before.before.before.before.before.before.before.before in
-    let A = a.args.arities.now in
-    let ns = a.args.numbers.now in
-    let ls = a.args.lengths.now in
+    let A = c.args.arities.now in
+    let ns = c.args.numbers.now in
+    let ls = c.args.lengths.now in
     let at = 4 + 12 * length ns in
-    c.before.before.put-arities.ensures
+    c.put_arities.ensures
     ∙ ap (λ (l : List ℕ). written l at A)
-    (d.put-contents.ensures
+    (c.put_contents.ensures
     ∙ ap (λ (l : List ℕ). written l 4 (bytes_of (contents (laid (at + length A) ns ls))))
-    (h.put-half2.ensures ∙ ap (λ (l : List ℕ). written l 2 (bytes_of (length A ∷ []))) h.before.before.before.before.put-half.ensures))
-    ∙ front-written A ns ls a.args.file.now a.requires
+    (c.put_half-2.ensures ∙ ap (λ (l : List ℕ). written l 2 (bytes_of (length A ∷ []))) c.put_half.ensures))
+    ∙ front-written A ns ls c.args.file.now c.requires
 
-pub lay-front-spec : {M : Type 1} → statement M
-lay-front-spec =
+pub lay_front_spec : {M : Type 1} → statement M
+lay_front_spec =
     tie.close
     (tie.spec
     cast-put-half

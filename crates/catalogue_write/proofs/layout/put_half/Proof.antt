@@ -8,16 +8,20 @@ use borrow.Author.Rules.{rules}
 use Rattle.catalogue_write.proofs.layout.put_half.Statement.{statement}
 use Rattle.catalogue_write.proofs.layout.put_half.Tie as tie
 
-put-number-requires : tie.Need-put-number-requires
-put-number-requires c κs = omega (arith, numbers-length c.before.before.args.file.now)
+put-number-requires : tie.Need-put_number-requires
+put-number-requires c κs = omega (arith, numbers-length c.args.file.now)
 
-same_length : tie.Need-same-length
+same_length : tie.Need-shape_of-file
 same_length c = search rules
 
 returns : tie.Need-returns
 returns c =
-    let a = c.before.before.before.before.before in
-    c.before.before.put-number.ensures ∙ half_written a.args.file.now a.args.i a.args.v a.requires
+    c.put_number.ensures ∙ half_written c.args.file.now c.args.i c.args.v c.requires
 
-pub put-half-spec : {M : Type 1} → statement M
-put-half-spec = tie.close (tie.spec put-number-requires same_length returns)
+pub put_half_spec : {M : Type 1} → statement M
+put_half_spec =
+    tie.close
+    (tie.spec
+    put-number-requires
+    same_length
+    returns)
