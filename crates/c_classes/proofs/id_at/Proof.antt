@@ -9,22 +9,28 @@ use Rattle.wire.specs.Wire.{numbers}
 use Rattle.c_classes.proofs.id_at.Statement.{statement}
 use Rattle.c_classes.proofs.id_at.Tie as tie
 
-number-at-requires : tie.Need-number-at-requires
+number-at-requires : tie.Need-number_at-v-requires
 number-at-requires c κs = search rules
 
-returns : tie.Need-returns
+returns : tie.Need-returns-then-v-lt32768
 returns c =
-    let a = c.before.before.before.args in
-    let e = c.before.number_at.ensures in
-    e ∙ sym (simp (lt-ltb (get_or (numbers a.list.now) a.q 0) 32768 (omega (arith, e, c.if1.true))))
+    let a = c.args in
+    let e = c.number_at-v.ensures in
+    e ∙ sym (simp (lt-ltb (get_or (numbers a.list.now) a.q 0) 32768 (omega (arith, e, c.if-v-lt32768.true))))
 
-cast-result : tie.Need-overflow-cast-result
+cast-result : tie.Need-overflow_cast-result
 cast-result c = search rules
 
-returns-2 : tie.Need-returns-2
+returns-2 : tie.Need-returns
 returns-2 c =
-    let a = c.before.before.before.args in
-    sym (simp (le-ltb (get_or (numbers a.list.now) a.q 0) 32768 (omega (arith, c.before.number_at.ensures, c.if1.false))))
+    let a = c.args in
+    sym (simp (le-ltb (get_or (numbers a.list.now) a.q 0) 32768 (omega (arith, c.number_at-v.ensures, c.if-v-lt32768.false))))
 
-pub id-at-spec : {M : Type 1} → statement M
-id-at-spec = tie.close (tie.spec number-at-requires returns cast-result returns-2)
+pub id_at_spec : {M : Type 1} → statement M
+id_at_spec =
+    tie.close
+    (tie.spec
+    number-at-requires
+    returns
+    cast-result
+    returns-2)
