@@ -14,79 +14,80 @@ use borrow.Author.Rules.{rules}
 use Rattle.c_catalogue.proofs.writer.check_write.Statement.{statement}
 use Rattle.c_catalogue.proofs.writer.check_write.Tie as tie
 
-module _ (c : tie.After-check-given) where
-  abbrev s : tie.Start
-  s = c.before.before.before.before.before.before
-
+module _ (c : tie.After-check_given) where
   abbrev A : List ℕ
-  A = s.args.arities.now
+  A = c.args.arities.now
 
   abbrev ns : List ℕ
-  ns = s.args.numbers.now
+  ns = c.args.numbers.now
 
   abbrev ls : List ℕ
-  ls = s.args.lengths.now
+  ls = c.args.lengths.now
 
   abbrev w : List ℕ
-  w = numbers_of s.args.rows.now
+  w = numbers_of c.args.rows.now
 
-  told : c.check-given.result ≡ given_fits A ns ls (length w)
-  told = c.check-given.ensures ∙ ap (given_fits A ns ls) c.before.count.ensures
+  told : c.check_given.result ≡ given_fits A ns ls (length w)
+  told = c.check_given.ensures ∙ ap (given_fits A ns ls) c.count-m.ensures
 
 -- it fits, where the rows are looked at
-fits : (c : tie.After-enum-told) → let d = c.before.before in given_fits (A d) (ns d) (ls d) (length (w d)) ≡ Fine
-fits c = sym (told c.before.before) ∙ c.enum_told.given.1
+fits : (c : tie.In-Fine) → given_fits (A c.before) (ns c.before) (ls c.before) (length (w c.before)) ≡ Fine
+fits c =
+    let d = c.before in
+    sym (told d) ∙ c.in-Fine.is
 
 -- the rows fit, where the room is looked at
-whole : (c : tie.After-enum-told2) → let d = c.before.before.before.before.before in rows_fit (A d) (numbered (ns d) (ls d) (w d)) ≡ Fine
-whole c = sym c.before.before.check-rows.ensures ∙ c.enum-told2.given.1
+whole : (c : tie.In-Fine-check_rows) → rows_fit (A c.before.before.before) (numbered (ns c.before.before.before) (ls c.before.before.before) (w c.before.before.before)) ≡ Fine
+whole c =
+    let d = c.before.before.before in
+    sym c.check_rows.ensures ∙ c.in-Fine-check_rows.is
 
-count-requires : tie.Need-count-requires
+count-requires : tie.Need-count-m-requires
 count-requires c κs = search rules
 
-check-given-requires : tie.Need-check-given-requires
+check-given-requires : tie.Need-check_given-requires
 check-given-requires c κs = search rules
 
-enum-known-r : tie.Need-enum-known-r
+enum-known-r : tie.Need-enum_known-r
 enum-known-r c = search rules
 
-enum_told : tie.Need-enum-told
+enum_told : tie.Need-enum_told-1
 enum_told c = search rules
 
-check-rows-requires : tie.Need-check-rows-requires
+check-rows-requires : tie.Need-check_rows-requires
 check-rows-requires c κs = given_is _ _ _ _ (fits c)
 
-enum-known-r-2 : tie.Need-enum-known-r-2
+enum-known-r-2 : tie.Need-enum_known-r-in-Refused-check_rows
 enum-known-r-2 c = search rules
 
-enum-told-2 : tie.Need-enum-told-2
+enum-told-2 : tie.Need-enum_told-in-Fine-check_rows
 enum-told-2 c = search rules
 
-size-of-requires : tie.Need-size-of-requires
+size-of-requires : tie.Need-size_of-requires
 size-of-requires c κs =
-    let h = fits c.before.before.before in
-    (symbols-few _ _ _ _ h, (given_is _ _ _ _ h).few, omega (arith, rows_few _ _ _ _ h, c.before.before.before.before.before.before.count.ensures))
+    let h = fits c.before.before in
+    (symbols-few _ _ _ _ h, (given_is _ _ _ _ h).few, omega (arith, rows_few _ _ _ _ h, c.count-m.ensures))
 
-check-room-requires : tie.Need-check-room-requires
+check-room-requires : tie.Need-check_room-requires
 check-room-requires c κs = search rules
 
-returns : tie.Need-returns
+returns : tie.Need-returns-in-Refused
 unfolding write_check
-returns c = simp (sym (told c.before.before.before) ∙ c.before.r.given.1)
+returns c = simp (sym (told c.before) ∙ c.in-Refused.is)
 
-returns-2 : tie.Need-returns-2
+returns-2 : tie.Need-returns-in-Refused-check_rows
 unfolding write_check
-returns-2 c = simp (fits c.before.before.before.before, sym c.before.before.before.check-rows.ensures ∙ c.before.r2.given.1)
+returns-2 c = simp (fits c.before.before, sym c.check_rows.ensures ∙ c.in-Refused-check_rows.is)
 
-returns-3 : tie.Need-returns-3
+returns-3 : tie.Need-returns-in-Fine-check_rows
 unfolding write_check
 returns-3 c =
-    let d = c.before.before.before.before.before.before.before in
-    let size : c.before.type_size.result ≡ size_of (A d) (ns d) (length (w d)) = c.before.type_size.ensures ∙ ap (size_of (A d) (ns d)) d.before.count.ensures in
-    simp (fits c.before.before.before.before.before, whole c.before.before, sym size) c.check-room.ensures
+    let d = c.before.before.before.before.before in
+    let size : c.size_of.result ≡ size_of (A d) (ns d) (length (w d)) = c.size_of.ensures ∙ ap (size_of (A d) (ns d)) c.count-m.ensures in
+    simp (fits c.before.before.before.before, whole c.before.before, sym size) c.check_room.ensures
 
-pub check-write-spec : {M : Type 1} → statement M
-check-write-spec =
+pub check_write_spec : {M : Type 1} → statement M
+check_write_spec =
     tie.close
     (tie.spec
     count-requires

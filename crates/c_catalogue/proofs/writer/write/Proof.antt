@@ -17,50 +17,50 @@ use borrow.Author.Rules.{rules}
 use Rattle.c_catalogue.proofs.writer.write.Statement.{statement}
 use Rattle.c_catalogue.proofs.writer.write.Tie as tie
 
-count-requires : tie.Need-count-requires
+count-requires : tie.Need-count-n-requires
 count-requires c κs = search rules
 
-refuse-alphabet-requires : tie.Need-refuse-alphabet-requires
+refuse-alphabet-requires : tie.Need-refuse_alphabet-requires
 refuse-alphabet-requires c κs = search rules
 
-returns : tie.Need-returns
+returns : tie.Need-returns-then-n-gt-ALPHABET_MOST
 returns c =
-    let a = c.before.before.before.before.before.before.before.before.args in
-    let n = c.before.before.count.ensures in
-    let told : (size : ℕ) → c.refuse-alphabet.result ≡ write_answer (filed (few (length a.numbers.now) then Refused (Arities (Count c.before.before.count.result))) size) =
-    c.refuse-alphabet.ensures in
+    let a = c.args in
+    let n = c.count-n.ensures in
+    let told : (size : ℕ) → c.refuse_alphabet.result ≡ write_answer (filed (few (length a.numbers.now) then Refused (Arities (Count c.count-n.result))) size) =
+    c.refuse_alphabet.ensures in
     long_refused (numbers_of a.arities.now) a.numbers.now a.lengths.now (numbers_of a.rows.now) a.file.now
-    (omega (arith, n, c.before.if1.true)) _
+    (omega (arith, n, c.if-n-gt-ALPHABET_MOST.true)) _
     (λ size. told size ∙ ap (λ (k : ℕ). write_answer (filed (few (length a.numbers.now) then Refused (Arities (Count k))) size)) n)
 
-small-room-requires : tie.Need-small-room-requires
+small-room-requires : tie.Need-small_room-room-requires
 small-room-requires c κs = search rules
 
-slice-aggregate-write-in : tie.Need-slice-aggregate-write-in
+slice-aggregate-write-in : tie.Need-slice_bounds-write_in-end
 slice-aggregate-write-in c = search rules
 
-write-in-requires : tie.Need-write-in-requires
+write-in-requires : tie.Need-write_in-requires
 write-in-requires c κs = search rules
 
-same_length : tie.Need-same-length
+same_length : tie.Need-shape_of-file-then-n-le-SMALL
 same_length c = search rules
 
-returns-2 : tie.Need-returns-2
+returns-2 : tie.Need-returns-then-n-le-SMALL
 returns-2 c = search rules
 
-alphabet-room-requires : tie.Need-alphabet-room-requires
+alphabet-room-requires : tie.Need-alphabet_room-room-requires
 alphabet-room-requires c κs = search rules
 
-slice-aggregate-write-in-2 : tie.Need-slice-aggregate-write-in-2
+slice-aggregate-write-in-2 : tie.Need-slice_bounds-write_in-end-2
 slice-aggregate-write-in-2 c = search rules
 
-write-in-requires-2 : tie.Need-write-in-requires-2
+write-in-requires-2 : tie.Need-write_in-requires-2
 write-in-requires-2 c κs = search rules
 
-same-length-2 : tie.Need-same-length-2
+same-length-2 : tie.Need-shape_of-file
 same-length-2 c = search rules
 
-returns-3 : tie.Need-returns-3
+returns-3 : tie.Need-returns
 returns-3 c = search rules
 
 pub write_spec : {M : Type 1} → statement M

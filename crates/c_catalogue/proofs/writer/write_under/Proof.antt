@@ -31,22 +31,24 @@ module _ (s : tie.Start) where
   b = s.args.file.now
 
 -- nothing is refused, where the file is laid out
-fine : (c : tie.After-enum-told) → let s = c.before.before.before.before.before.before.before.before in write_check (A s) (ns s) (ls s) (w s) (length (b s)) ≡ Fine
-fine c = sym c.before.before.check-write.ensures ∙ c.enum_told.given.1
+fine : (c : tie.In-Fine) → write_check (A c.before.before.before.before.before.before.before) (ns c.before.before.before.before.before.before.before) (ls c.before.before.before.before.before.before.before) (w c.before.before.before.before.before.before.before) (length (b c.before.before.before.before.before.before.before)) ≡ Fine
+fine c =
+    let s = c.before.before.before.before.before.before.before in
+    sym c.check_write.ensures ∙ c.in-Fine.is
 
-check-write-requires : tie.Need-check-write-requires
+check-write-requires : tie.Need-check_write-requires
 check-write-requires c κs = search rules
 
-enum-known-r : tie.Need-enum-known-r
+enum-known-r : tie.Need-enum_known-r
 enum-known-r c = search rules
 
-refusal-of-requires : tie.Need-refusal-of-requires
+refusal-of-requires : tie.Need-refusal_of-requires
 refusal-of-requires c κs = search rules
 
-enum_told : tie.Need-enum-told
+enum_told : tie.Need-enum_told-1
 enum_told c = search rules
 
-lay-out-requires : tie.Need-lay-out-requires
+lay-out-requires : tie.Need-lay_out-requires
 lay-out-requires c κs =
     let h = fine c.before in
     let g = given_of _ _ _ _ _ h in
@@ -56,28 +58,28 @@ lay-out-requires c κs =
 count-requires : tie.Need-count-requires
 count-requires c κs = search rules
 
-size-of-requires : tie.Need-size-of-requires
+size-of-requires : tie.Need-size_of-requires
 size-of-requires c κs =
     let g = given_of _ _ _ _ _ (fine c.before.before.before.before.before) in
     (symbols-few _ _ _ _ g, (given_is _ _ _ _ g).few, omega (arith, rows_few _ _ _ _ g, c.count.ensures))
 
-returns : tie.Need-returns
+returns : tie.Need-returns-in-Refused
 returns c =
-    let s = c.before.before.before.before.before.before.before.before.before.before in
-    refusal_crosses (A s) (ns s) (ls s) (w s) (b s) c.before.before.r.given.0.0 _ (sym c.before.before.before.before.check-write.ensures ∙ c.before.before.r.given.1) c.refusal-of.ensures
+    let s = c.before.before.before.before.before.before.before.before in
+    refusal_crosses (A s) (ns s) (ls s) (w s) (b s) c.in-Refused.r _ (sym c.check_write.ensures ∙ c.in-Refused.is) c.refusal_of.ensures
 
-same_length : tie.Need-same-length
+same_length : tie.Need-shape_of-file
 same_length c = search rules
 
-returns-2 : tie.Need-returns-2
+returns-2 : tie.Need-returns-in-Fine
 returns-2 c =
-    let s = c.before.before.before.before.before.before.before.before.before.before.before.before.before.before in
-    file_crosses (A s) (ns s) (ls s) (w s) (b s) c.type_size.result _ (fine c.before.before.before.before.before.before)
-    (c.type_size.ensures ∙ ap (size_of (A s) (ns s)) c.before.count.ensures)
-    c.before.before.before.before.lay-out.ensures
+    let s = c.before.before.before.before.before.before.before.before.before.before.before.before.before in
+    file_crosses (A s) (ns s) (ls s) (w s) (b s) c.size_of.result _ (fine c.before.before.before.before.before.before)
+    (c.size_of.ensures ∙ ap (size_of (A s) (ns s)) c.count.ensures)
+    c.lay_out.ensures
 
-pub write-under-spec : {M : Type 1} → statement M
-write-under-spec =
+pub write_under_spec : {M : Type 1} → statement M
+write_under_spec =
     tie.close
     (tie.spec
     check-write-requires
