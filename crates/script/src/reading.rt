@@ -4,7 +4,7 @@
 //     B          is the bar of bar notation, 65534;
 //     P9         is the positions 0 to 8, that is, the classes of a row of which no two subtrees are equal;
 //     A, T, E, C are alphabet A and row T of docs/SCOPE.md, the ends of T's subtrees, which are its table, and its classes.
-ghost use Rattle.std.specs.Prelude.{◌≡◌, ◌≤◌, length};
+ghost use Rattle.std.specs.Prelude.{◌≡◌, ◌≢◌, ◌<◌, ◌≤◌, ◌-◌, ℕ, get_or, length, min, replicate};
 
 use std::num::wrapping_add_u16;
 
@@ -13,13 +13,16 @@ const STROKE: u16 = 60000;
 
 // Room for the numbers of a case.
 pub fn room() -> [u16; 50000]
-    ensures { 50000 ≡ length result }
+    ensures places { 50000 ≡ length result }
+    ensures zeros { result ≡ replicate 50000 0 }
 {
     [0u16; 50000]
 }
 
 // The byte at a position; 0 past the end.
-pub fn byte_at(line: &[u8], at: usize) -> u8 {
+pub fn byte_at(line: &[u8], at: usize) -> u8
+    ensures { result ≡ get_or line.now at 0 }
+{
     if at < line.len() { line[at] } else { 0 }
 }
 
@@ -78,7 +81,9 @@ fn rise(room: &mut [u16], first: usize, many: u16) -> usize
 // Where the line ends that stands at a byte of the text.
 pub fn line_end(input: &[u8], from: usize) -> usize
     requires { from ≤ length input.now }
-    ensures { (from ≤ result) × (result ≤ length input.now) }
+    ensures within { (from ≤ result) × (result ≤ length input.now) }
+    ensures before { (i : ℕ) → from ≤ i → i < result → get_or input.now i 0 ≢ 10 }
+    ensures ended { result < length input.now → get_or input.now result 0 ≡ 10 }
 {
     let mut end = from;
     while end < input.len() {
@@ -221,27 +226,33 @@ pub const UNSET: u16 = 60606;
 
 // A buffer for a table or an output, with nothing written in it.
 pub fn unset_places() -> [u16; 16384]
-    ensures { 16384 ≡ length result }
+    ensures places { 16384 ≡ length result }
+    ensures unset { result ≡ replicate 16384 UNSET }
 {
     [UNSET; 16384]
 }
 
 // The last number of a case; 0 if it has none.
-fn last(case: &[u16]) -> u16 {
+fn last(case: &[u16]) -> u16
+    ensures { result ≡ get_or case.now (length case.now - 1) 0 }
+{
     let n = case.len();
     if 0 < n { case[n - 1] } else { 0 }
 }
 
 // How many places the buffer has: the last number of the case.
 pub fn places(case: &[u16]) -> usize
-    ensures { result ≤ 16384 }
+    ensures within { result ≤ 16384 }
+    ensures told { result ≡ min (get_or case.now (length case.now - 1) 0) 16384 }
 {
     let n = last(case) as usize;
     if n <= 16384 { n } else { 16384 }
 }
 
 // The number at a place of a list; 0 past its end.
-fn entry(list: &[u16], i: usize) -> u16 {
+fn entry(list: &[u16], i: usize) -> u16
+    ensures { result ≡ get_or list.now i 0 }
+{
     if i < list.len() { list[i] } else { 0 }
 }
 
