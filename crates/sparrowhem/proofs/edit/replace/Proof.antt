@@ -21,91 +21,88 @@ use borrow.Author.Rules.{rules}
 use Rattle.sparrowhem.proofs.edit.replace.Statement.{statement}
 use Rattle.sparrowhem.proofs.edit.replace.Tie as tie
 
--- what the call is lent
-abbrev start : tie.After-check-replace → tie.Start
-start c = c.before.before.before.before.before.before.before.before.before
+abbrev a : tie.After-check_replace → Alphabet
+a c = alphabet_of c.args.arities.now
 
-abbrev a : tie.After-check-replace → Alphabet
-a c = alphabet_of (start c).args.arities.now
+abbrev P : tie.After-check_replace → Programme
+P c = programme c.args.row.now c.args.table.now c.args.classes.now
 
-abbrev P : tie.After-check-replace → Programme
-P c = programme (start c).args.row.now (start c).args.table.now (start c).args.classes.now
+abbrev n : tie.After-check_replace → ℕ
+n c = c.args.row_length
 
-abbrev n : tie.After-check-replace → ℕ
-n c = (start c).args.row-length
+abbrev v : tie.After-check_replace → List ℕ
+v c = c.args.replacement.now
 
-abbrev v : tie.After-check-replace → List ℕ
-v c = (start c).args.replacement.now
-
-abbrev p : tie.After-check-replace → ℕ
-p c = (start c).args.position
+abbrev p : tie.After-check_replace → ℕ
+p c = c.args.position
 
 -- what the lists hold afterwards, by what the check says
-abbrev left : tie.After-check-replace → Check → Programme
+abbrev left : tie.After-check_replace → Check → Programme
 left c x = after x (holding (P c) (n c) (new_tree (a c) (P c) (n c) (v c) (p c))) (P c)
 
-fine : (c : tie.After-enum-told) → (let s = c.before.before in replace_check (a s) (P s) (n s) (v s) (p s) ≡ Fine)
-fine c = sym c.before.before.check-replace.ensures ∙ c.enum_told.given.1
+fine : (c : tie.In-Fine) → (replace_check (a c.before) (P c.before) (n c.before) (v c.before) (p c.before) ≡ Fine)
+fine c =
+    let s = c.before in
+    sym c.check_replace.ensures ∙ c.in-Fine.is
 
-able : (c : tie.After-enum-told) → (let s = c.before.before in Replaceable (a s).arities (P s).row (P s).table (n s) (v s) (p s))
-able c = let s = c.before.before in replace_able (a s) (P s) (n s) (v s) (p s) (fine c)
+able : (c : tie.In-Fine) → (Replaceable (a c.before).arities (P c.before).row (P c.before).table (n c.before) (v c.before) (p c.before))
+able c =
+    let s = c.before in
+    replace_able (a s) (P s) (n s) (v s) (p s) (fine c)
 
-check-replace-requires : tie.Need-check-replace-requires
+check-replace-requires : tie.Need-check_replace-requires
 check-replace-requires c κs = search rules
 
-enum-known-r : tie.Need-enum-known-r
+enum-known-r : tie.Need-enum_known-r
 enum-known-r c = search rules
 
-enum_told : tie.Need-enum-told
+enum_told : tie.Need-enum_told-1
 enum_told c = search rules
 
-replace-at-requires : tie.Need-replace-at-requires
+replace-at-requires : tie.Need-replace_at-length-requires
 replace-at-requires c κs =
-    let o = c.before.before.before in let s = o.before.before in
+    let s = c.before.before.before.before in
+    let o = c.before.before.before in
     (able o, replace_classes (a s) (P s) (n s) (v s) (p s) (fine o), replace_short (a s) (P s) (n s) (v s) (p s) (fine o))
 
-change-requires : tie.Need-change-requires
+change-requires : tie.Need-change-change-requires
 change-requires c κs =
-    let r = c.before.before.before.before.before.before in
-    let o = c.before.before.before.before.before.before.before.before.before.before in
-    let s = o.before.before in
-    able_sizes (a s).arities (P s).row (P s).table (n s) (v s) (p s) r.replace-at.result (able o) r.replace-at.ensures.0.length_now
+    let r = c.before.before.before.before.before.before.before.before.before.before.before in
+    able_sizes (a r).arities (P r).row (P r).table (n r) (v r) (p r) c.replace_at-length.result (able c.before.before.before.before.before.before.before.before.before.before) c.replace_at-length.ensures.0.length_now
 
-same_length : tie.Need-same-length
+same_length : tie.Need-shape_of-row-in-Refused
 same_length c = search rules
 
-same-length-2 : tie.Need-same-length-2
+same-length-2 : tie.Need-shape_of-table-in-Refused
 same-length-2 c = search rules
 
-same-length-3 : tie.Need-same-length-3
+same-length-3 : tie.Need-shape_of-classes-in-Refused
 same-length-3 c = search rules
 
-returns : tie.Need-returns
+returns : tie.Need-returns-in-Refused
 returns c =
-    let s = c.before.before.before in
-    let e = sym s.check-replace.ensures ∙ c.before.r.given.1 in
-    record { answer = simp e; lists = sym (ap (left s) e) }
+    let e = sym c.check_replace.ensures ∙ c.in-Refused.is in
+    record { answer = simp e; lists = sym (ap (left c.before) e) }
 
-same-length-4 : tie.Need-same-length-4
+same-length-4 : tie.Need-shape_of-row-in-Fine
 same-length-4 c = search rules
 
-same-length-5 : tie.Need-same-length-5
+same-length-5 : tie.Need-shape_of-table-in-Fine
 same-length-5 c = search rules
 
-same-length-6 : tie.Need-same-length-6
+same-length-6 : tie.Need-shape_of-classes-in-Fine
 same-length-6 c = search rules
 
-returns-2 : tie.Need-returns-2
+returns-2 : tie.Need-returns-in-Fine
 returns-2 c =
-    let r = c.before.before.before.before.before.before.before in
     let o = c.before.before.before.before.before.before.before.before.before.before.before in
-    let s = o.before.before in
-    let m : ℕ = r.replace-at.result in
-    let now = r.replace-at.ensures.0 in
-    let by : to_z w32 (of_z w32 c.change.result) ≡ pos m -ℤ pos (n s) = to_z-of_z {w = w32} {z = c.change.result} (search rules) ∙ c.change.ensures in
+    let r = c.before.before.before.before.before.before.before.before.before.before.before.before in
+    let m : ℕ = c.replace_at-length.result in
+    let now = c.replace_at-length.ensures.0 in
+    let by : to_z w32 (of_z w32 c.change-change.result) ≡ pos m -ℤ pos (n r) = to_z-of_z {w = w32} {z = c.change-change.result} (search rules) ∙ c.change-change.ensures in
     record {
-      answer = simp (fine o) (ap (Done m) by ∙ ap (λ (k : ℕ). Done k (pos k -ℤ pos (n s))) now.length_now);
-      lists = same_programme now.row_now now.table_now r.replace-at.ensures.1.classes_now ∙ sym (ap (left s) (fine o));
+      answer = simp (fine o) (ap (Done m) by ∙ ap (λ (k : ℕ). Done k (pos k -ℤ pos (n r))) now.length_now);
+      lists = same_programme now.row_now now.table_now c.replace_at-length.ensures.1.classes_now ∙ sym (ap (left r) (fine o));
     }
 
 pub replace_spec : {M : Type 1} → statement M

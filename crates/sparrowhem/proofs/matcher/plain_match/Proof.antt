@@ -16,80 +16,78 @@ use borrow.Author.Rules.{rules}
 use Rattle.sparrowhem.proofs.matcher.plain_match.Statement.{statement}
 use Rattle.sparrowhem.proofs.matcher.plain_match.Tie as tie
 
--- what the call is lent
-abbrev start : tie.After-check-plain → tie.Start
-start c = c.before.before.before.before
+abbrev a : tie.After-check_plain → Alphabet
+a c = alphabet_of c.args.arities.now
 
-abbrev a : tie.After-check-plain → Alphabet
-a c = alphabet_of (start c).args.arities.now
+abbrev w : tie.After-check_plain → List ℕ
+w c = c.args.row.now
 
-abbrev w : tie.After-check-plain → List ℕ
-w c = (start c).args.row.now
+abbrev q : tie.After-check_plain → List ℕ
+q c = c.args.pattern.now
 
-abbrev q : tie.After-check-plain → List ℕ
-q c = (start c).args.pattern.now
-
-abbrev p : tie.After-check-plain → ℕ
-p c = (start c).args.position
+abbrev p : tie.After-check_plain → ℕ
+p c = c.args.position
 
 -- nothing is refused
-fine : (c : tie.After-enum-told) → (let s = c.before.before in plain_check (a s) (w s) (q s) (p s) ≡ Fine)
-fine c = sym c.before.before.check-plain.ensures ∙ c.enum_told.given.1
+fine : (c : tie.In-Fine) → (plain_check (a c.before) (w c.before) (q c.before) (p c.before) ≡ Fine)
+fine c =
+    let s = c.before in
+    sym c.check_plain.ensures ∙ c.in-Fine.is
 
-opened : (c : tie.After-enum-told) → (let s = c.before.before in Open (a s) (w s) (q s) (p s))
-opened c = let s = c.before.before in plain_open (a s) (w s) (q s) (p s) (fine c)
+opened : (c : tie.In-Fine) → (Open (a c.before) (w c.before) (q c.before) (p c.before))
+opened c =
+    let s = c.before in
+    plain_open (a s) (w s) (q s) (p s) (fine c)
 
 -- what is tried is told by the answer
-told : (c : tie.After-fits2) (r : Walked) → c.fits2.result ≡ r → (let s = c.before.before.before.before in TriesRight (a s) (tail (w s) (p s)) (q s) r)
-told c r e = let s = c.before.before.before.before in subst (TriesRight (a s) (tail (w s) (p s)) (q s)) e c.fits2.ensures
+told : (c : tie.After-fits-tried) (r : Walked) → c.fits-tried.result ≡ r → (let s = c.before.before.before in TriesRight (a s) (tail (w s) (p s)) (q s) r)
+told c r e = let s = c.before.before.before in subst (TriesRight (a s) (tail (w s) (p s)) (q s)) e c.fits-tried.ensures
 
-check-plain-requires : tie.Need-check-plain-requires
+check-plain-requires : tie.Need-check_plain-requires
 check-plain-requires c κs = search rules
 
-enum-known-r : tie.Need-enum-known-r
+enum-known-r : tie.Need-enum_known-r
 enum-known-r c = search rules
 
-enum_told : tie.Need-enum-told
+enum_told : tie.Need-enum_told-1
 enum_told c = search rules
 
-mul-fits : tie.Need-overflow-mul-fits
-mul-fits c = omega (arith, (opened c).below, (start c.before.before).well-formed)
+mul-fits : tie.Need-offset_bounds-row-position
+mul-fits c = omega (arith, (opened c).below, c.well_formed)
 
-sub-fits : tie.Need-overflow-sub-fits
+sub-fits : tie.Need-slice_bounds-fits-count
 sub-fits c = omega (arith, (opened c).below)
 
-part-fits-start : tie.Need-slice-bounds-fits-start
+part-fits-start : tie.Need-slice_bounds-fits-start
 part-fits-start c = omega (arith, (opened c).below)
 
-part-fits-end : tie.Need-slice-bounds-fits-end
+part-fits-end : tie.Need-slice_bounds-fits-end
 part-fits-end c = search rules
 
-fits-requires : tie.Need-fits-requires
+fits-requires : tie.Need-fits-tried-requires
 fits-requires c κs = open_tryable _ _ _ _ (opened c.before)
 
-enum-told-2 : tie.Need-enum-told-2
+enum-told-2 : tie.Need-enum_told-in-Through
 enum-told-2 c = search rules
 
-enum-told-3 : tie.Need-enum-told-3
+enum-told-3 : tie.Need-enum_told-in-Fails
 enum-told-3 c = search rules
 
-returns : tie.Need-returns
-returns c = sym c.before.before.before.check-plain.ensures ∙ c.before.r.given.1
+returns : tie.Need-returns-in-Refused
+returns c = sym c.check_plain.ensures ∙ c.in-Refused.is
 
-returns-2 : tie.Need-returns-2
+returns-2 : tie.Need-returns-in-Through
 returns-2 c =
-    let f = c.before.before in
-    let o = f.before.before in
-    (fine o, subst (λ (X : Type 0). X) (there _ _ _ _ (opened o)) (told f _ c.enum-told2.given.1))
+    let f = c.before.before.before in
+    (fine f, subst (λ (X : Type 0). X) (there _ _ _ _ (opened f)) (told c.before _ c.in-Through.is))
 
-returns-3 : tie.Need-returns-3
+returns-3 : tie.Need-returns-in-Fails
 returns-3 c =
-    let f = c.before.before in
-    let o = f.before.before in
-    (fine o, subst (λ (X : Type 0). X → ⊥) (there _ _ _ _ (opened o)) (told f _ c.enum-told3.given.1).0)
+    let f = c.before.before.before in
+    (fine f, subst (λ (X : Type 0). X → ⊥) (there _ _ _ _ (opened f)) (told c.before _ c.in-Fails.is).0)
 
-pub plain-match-spec : {M : Type 1} → statement M
-plain-match-spec =
+pub plain_match_spec : {M : Type 1} → statement M
+plain_match_spec =
     tie.close
     (tie.spec
     check-plain-requires

@@ -17,121 +17,110 @@ use borrow.Author.Rules.{rules}
 use Rattle.sparrowhem.proofs.parts.newer_answer.Statement.{statement}
 use Rattle.sparrowhem.proofs.parts.newer_answer.Tie as tie
 
--- what the call is lent
-abbrev start : tie.After-check-newer → tie.Start
-start c =
-    let at_before = c.before.before.before.before.before.before.before.before in
-    at_before.before
+abbrev a : tie.After-check_newer → Alphabet
+a c = alphabet_of c.args.arities.now
 
-abbrev a : tie.After-check-newer → Alphabet
-a c = alphabet_of (start c).args.arities.now
+abbrev P : tie.After-check_newer → Programme
+P c = programme c.args.corrected.now c.args.corrected_table.now c.args.corrected_classes.now
 
-abbrev P : tie.After-check-newer → Programme
-P c = programme (start c).args.corrected.now (start c).args.corrected-table.now (start c).args.corrected-classes.now
+abbrev O : tie.After-check_newer → Programme
+O c = programme c.args.«record».now c.args.record_table.now c.args.record_classes.now
 
-abbrev O : tie.After-check-newer → Programme
-O c = programme (start c).args.«record».now (start c).args.record-table.now (start c).args.record-classes.now
-
-abbrev q : tie.After-check-newer → List ℕ
-q c = (start c).args.pattern.now
+abbrev q : tie.After-check_newer → List ℕ
+q c = c.args.pattern.now
 
 -- nothing is refused
-fine : (c : tie.After-enum-told) → (let s = c.before.before in newer_check (a s) (P s) (O s) (q s) ≡ Fine)
-fine c = sym c.before.before.check-newer.ensures ∙ c.enum_told.given.1
+fine : (c : tie.In-Fine) → (newer_check (a c.before) (P c.before) (O c.before) (q c.before) ≡ Fine)
+fine c =
+    let s = c.before in
+    sym c.check_newer.ensures ∙ c.in-Fine.is
 
-both : (c : tie.After-enum-told) → (let s = c.before.before in Checked (a s) (P s) (q s) × Checked (a s) (O s) (q s))
-both c = let s = c.before.before in newer_checked (a s) (P s) (O s) (q s) (fine c)
+both : (c : tie.In-Fine) → (Checked (a c.before) (P c.before) (q c.before) × Checked (a c.before) (O c.before) (q c.before))
+both c =
+    let s = c.before in
+    newer_checked (a s) (P s) (O s) (q s) (fine c)
 
 -- what the search of each row says of an answer that is known
-in-corrected : (c : tie.After-first-match) (r : Next) → c.first_match.result ≡ r → (let s = c.before.before.before in NextIs (a s) (P s).row (q s) 0 (length (P s).row) r)
+in-corrected : (c : tie.After-first_match) (r : Next) → c.first_match.result ≡ r → (NextIs (a c.before.before) (P c.before.before).row (q c.before.before) 0 (length (P c.before.before).row) r)
 in-corrected c r e =
-    let s = c.before.before.before in
+    let s = c.before.before in
     subst (NextIs (a s) (P s).row (q s) 0 (length (P s).row)) e (c.first_match.ensures (a s) (both c.before).0)
 
-in-record : (c : tie.After-first-match2) (r : Next) → c.first-match2.result ≡ r
-    → (let s = c.before.before.before.before.before.before in NextIs (a s) (O s).row (q s) 0 (length (O s).row) r)
+in-record : (c : tie.After-first_match-in-Fine) (r : Next) → c.first_match-in-Fine.result ≡ r
+    → (NextIs (a c.before.before.before.before) (O c.before.before.before.before).row (q c.before.before.before.before) 0 (length (O c.before.before.before.before).row) r)
 in-record c r e =
-    let n = c.before.before.before in
-    let s = n.before.before.before in
-    subst (NextIs (a s) (O s).row (q s) 0 (length (O s).row)) e (c.first-match2.ensures (a s) (both n.before).1)
+    let s = c.before.before.before.before in
+    subst (NextIs (a s) (O s).row (q s) 0 (length (O s).row)) e (c.first_match-in-Fine.ensures (a s) (both c.before.before.before).1)
 
-check-newer-requires : tie.Need-check-newer-requires
+check-newer-requires : tie.Need-check_newer-requires
 check-newer-requires c κs = search rules
 
-enum-known-r : tie.Need-enum-known-r
+enum-known-r : tie.Need-enum_known-r
 enum-known-r c = search rules
 
-enum_told : tie.Need-enum-told
+enum_told : tie.Need-enum_told-1
 enum_told c = search rules
 
-first-match-requires : tie.Need-first-match-requires
+first-match-requires : tie.Need-first_match-requires
 first-match-requires c κs = (_, (both c).0)
 
-enum-known-p : tie.Need-enum-known-p
+enum-known-p : tie.Need-enum_known-p
 enum-known-p c = search rules
 
-mul-t15 : tie.Need-overflow-mul-t15
-mul-t15 c = let n = c.before.before.before in omega (arith, (both n.before).0.row.sized.most, (in-corrected n _ c.before.p.given.1).within)
+mul-t15 : tie.Need-offset_bounds-corrected_table-p
+mul-t15 c = omega (arith, (both c.before.before).0.row.sized.most, (in-corrected c.before _ c.in-At.is).within)
 
-shared-slice-read-t17 : tie.Need-shared-slice-read-t17
+shared-slice-read-t17 : tie.Need-bounds-corrected_table-p
 shared-slice-read-t17 c =
-    let n = c.before.before.before.before in
-    omega (arith, (both n.before).0.row.sized.fits, (in-corrected n _ c.before.before.p.given.1).within)
+    omega (arith, (both c.before.before.before).0.row.sized.fits, (in-corrected c.before.before _ c.in-At.is).within)
 
-cast-t18 : tie.Need-overflow-cast-t18
-cast-t18 c = omega (arith, c.shared-slice-known9.given c.before.before.p.given.0.0)
+cast-t18 : tie.Need-overflow_cast-result
+cast-t18 c = omega (arith, c.shared_slice_known-in-At-1.given c.in-At.p)
 
-returns : tie.Need-returns
+returns : tie.Need-returns-in-At
 returns c =
-    let n = c.before.before.before.before in
-    let o = n.before in
-    let s = o.before.before in
-    (fine o, first_match (a s) (P s) (q s) (both o).0 _ (in-corrected n _ c.before.before.p.given.1))
+    let o = c.before.before.before.before in
+    let n = c.before.before.before in
+    (fine n, first_match (a o) (P o) (q o) (both n).0 _ (in-corrected c.before.before _ c.in-At.is))
 
-enum-told-2 : tie.Need-enum-told-2
+enum-told-2 : tie.Need-enum_told-in_default
 enum-told-2 c = search rules
 
-first-match-requires-2 : tie.Need-first-match-requires-2
-first-match-requires-2 c κs = (_, (both c.before.before.before).1)
+first-match-requires-2 : tie.Need-first_match-requires-in-Fine
+first-match-requires-2 c κs = (_, (both c.before.before).1)
 
-enum-known-p-2 : tie.Need-enum-known-p-2
+enum-known-p-2 : tie.Need-enum_known-p-in-At-first_match-2
 enum-known-p-2 c = search rules
 
-mul-t21 : tie.Need-overflow-mul-t21
-mul-t21 c = let m = c.before.before.before in omega (arith, (both m.before.before.before.before).1.row.sized.most, (in-record m _ c.before.p2.given.1).within)
+mul-t21 : tie.Need-offset_bounds-record_table-p
+mul-t21 c = omega (arith, (both c.before.before.before.before).1.row.sized.most, (in-record c.before _ c.in-At-first_match.is).within)
 
-shared-slice-read-t23 : tie.Need-shared-slice-read-t23
+shared-slice-read-t23 : tie.Need-bounds-record_table-p
 shared-slice-read-t23 c =
-    let m = c.before.before.before.before in
-    omega (arith, (both m.before.before.before.before).1.row.sized.fits, (in-record m _ c.before.before.p2.given.1).within)
+    omega (arith, (both c.before.before.before.before.before).1.row.sized.fits, (in-record c.before.before _ c.in-At-first_match.is).within)
 
-cast-t24 : tie.Need-overflow-cast-t24
-cast-t24 c = omega (arith, c.shared-slice-known10.given c.before.before.p2.given.0.0)
+cast-t24 : tie.Need-overflow_cast-result-in-At-first_match
+cast-t24 c = omega (arith, c.shared_slice_known-in-At-first_match-1.given c.in-At-first_match.p)
 
-enum-told-3 : tie.Need-enum-told-3
+enum-told-3 : tie.Need-enum_told-in-Nowhere
 enum-told-3 c = search rules
 
-returns-2 : tie.Need-returns-2
-returns-2 c = sym c.before.before.before.check-newer.ensures ∙ c.before.r.given.1
+returns-2 : tie.Need-returns-in-Refused
+returns-2 c = sym c.check_newer.ensures ∙ c.in-Refused.is
 
-returns-3 : tie.Need-returns-3
+returns-3 : tie.Need-returns-in-At-first_match
 returns-3 c =
-    let m = c.before.before.before.before in
-    let n = m.before.before.before in
-    let o = n.before in
-    let s = o.before.before in
-    (fine o, no_match (a s) (P s) (q s) (in-corrected n _ m.before.enum-told2.given.1), first_match (a s) (O s) (q s) (both o).1 _ (in-record m _ c.before.before.p2.given.1))
+    let n = c.before.before.before.before.before.before in
+    let m = c.before.before.before.before.before in
+    (fine m, no_match (a n) (P n) (q n) (in-corrected c.before.before.before.before _ c.in_default.is), first_match (a n) (O n) (q n) (both m).1 _ (in-record c.before.before _ c.in-At-first_match.is))
 
-returns-4 : tie.Need-returns-4
+returns-4 : tie.Need-returns-in-Nowhere
 returns-4 c =
-    let m = c.before.before in
-    let n = m.before.before.before in
-    let o = n.before in
-    let s = o.before.before in
-    (fine o, no_match (a s) (P s) (q s) (in-corrected n _ m.before.enum-told2.given.1), no_match (a s) (O s) (q s) (in-record m _ c.enum-told3.given.1))
+    let m = c.before.before.before.before.before in
+    (fine c.before.before.before.before, no_match (a m) (P m) (q m) (in-corrected c.before.before.before _ c.in_default.is), no_match (a m) (O m) (q m) (in-record c.before _ c.in-Nowhere.is))
 
-pub newer-answer-spec : {M : Type 1} → statement M
-newer-answer-spec =
+pub newer_answer_spec : {M : Type 1} → statement M
+newer_answer_spec =
     tie.close
     (tie.spec
     check-newer-requires

@@ -13,59 +13,59 @@ use Rattle.sparrowhem.proofs.parts.subtree.Statement.{statement}
 use Rattle.sparrowhem.proofs.parts.subtree.Tie as tie
 
 -- the companion has answered with a span
-spans : (c : tie.After-known-told)
-    → Spans (alphabet_of c.before.before.before.before.before.before.before.before.args.arities.now) (programme c.before.before.before.before.before.before.before.before.args.row.now c.before.before.before.before.before.before.before.before.args.table.now c.before.before.before.before.before.before.before.before.args.classes.now) c.before.before.before.before.before.before.before.before.args.position c.before.begin.given.0.0 c.before.begin.given.0.1.0
+spans : (c : tie.In-Span)
+    → Spans (alphabet_of c.args.arities.now) (programme c.args.row.now c.args.table.now c.args.classes.now) c.args.position c.in-Span.begin c.in-Span.end
 spans c =
-    let a = c.before.before.before.before.before.before.before.before.args in
-    answer_span (alphabet_of a.arities.now) (programme a.row.now a.table.now a.classes.now) a.position _ _ (sym c.before.before.before.subtree-answer.ensures ∙ c.before.begin.given.1)
+    let a = c.args in
+    answer_span (alphabet_of a.arities.now) (programme a.row.now a.table.now a.classes.now) a.position _ _ (sym c.subtree_answer.ensures ∙ c.in-Span.is)
 
-within : (c : tie.After-known-told) → (c.before.begin.given.0.0 < c.before.begin.given.0.1.0) × (c.before.begin.given.0.1.0 ≤ length c.before.before.before.before.before.before.before.before.args.row.now)
-within c = let a = c.before.before.before.before.before.before.before.before.args in span_within (alphabet_of a.arities.now) (programme a.row.now a.table.now a.classes.now) a.position _ _ (spans c)
+within : (c : tie.In-Span) → (c.in-Span.begin < c.in-Span.end) × (c.in-Span.end ≤ length c.args.row.now)
+within c = let a = c.args in span_within (alphabet_of a.arities.now) (programme a.row.now a.table.now a.classes.now) a.position _ _ (spans c)
 
-subtree-answer-requires : tie.Need-subtree-answer-requires
+subtree-answer-requires : tie.Need-subtree_answer-requires
 subtree-answer-requires c κs = search rules
 
-enum_told : tie.Need-enum-told
+enum_told : tie.Need-enum_told-1
 enum_told c = search rules
 
-sub-result : tie.Need-overflow-sub-result
+sub-result : tie.Need-slice_bounds-result-count
 sub-result c = search rules
 
-part-result-start : tie.Need-slice-bounds-result-start
+part-result-start : tie.Need-slice_bounds-result-start
 part-result-start c = search rules
 
-part-result-end : tie.Need-slice-bounds-result-end
+part-result-end : tie.Need-slice_bounds-result-end
 part-result-end c = search rules
 
-enum-known-begin : tie.Need-enum-known-begin
+enum-known-begin : tie.Need-enum_known-begin
 enum-known-begin c = search rules
 
-mul-result : tie.Need-overflow-mul-result
+mul-result : tie.Need-offset_bounds-row-begin
 mul-result c = omega (arith, within c)
 
-sub-result-2 : tie.Need-overflow-sub-result-2
+sub-result-2 : tie.Need-slice_bounds-result-count-in-Span
 sub-result-2 c = omega (arith, within c)
 
-part-result-start-2 : tie.Need-slice-bounds-result-start-2
+part-result-start-2 : tie.Need-slice_bounds-result-start-in-Span
 part-result-start-2 c = omega (arith, within c)
 
-part-result-end-2 : tie.Need-slice-bounds-result-end-2
+part-result-end-2 : tie.Need-slice_bounds-result-end-in-Span
 part-result-end-2 c = omega (arith, within c)
 
-returns : tie.Need-returns
+returns : tie.Need-returns-in-Refused
 returns c =
-    let a = c.before.before.before.before.before.before.before.before.args in
-    let none = sym c.before.before.before.subtree-answer.ensures ∙ c.before.enum_told.given.1 in
+    let a = c.args in
+    let none = sym c.subtree_answer.ensures ∙ c.in-Refused.is in
     (sym (answer_none (alphabet_of a.arities.now) (programme a.row.now a.table.now a.classes.now) a.position _ none), subst (λ (x : Placed). SubtreeLies x a.row.ref_ptr (a.row.ref_ptr.0, 0 + a.row.ref_ptr.1)) (sym none) (refl, refl))
 
-returns-2 : tie.Need-returns-2
+returns-2 : tie.Need-returns-in-Span
 returns-2 c =
-    let a = c.before.before.before.before.before.before.before.before.before.args in
-    let span = sym c.before.before.before.before.subtree-answer.ensures ∙ c.before.before.begin.given.1 in
-    (sym (span_part (alphabet_of a.arities.now) (programme a.row.now a.table.now a.classes.now) a.position _ _ (spans c.before)), subst (λ (x : Placed). SubtreeLies x a.row.ref_ptr (a.row.ref_ptr.0, c.before.before.begin.given.0.0 * 2 + a.row.ref_ptr.1)) (sym span) (refl, refl))
+    let a = c.args in
+    let span = sym c.subtree_answer.ensures ∙ c.in-Span.is in
+    (sym (span_part (alphabet_of a.arities.now) (programme a.row.now a.table.now a.classes.now) a.position _ _ (spans c.before)), subst (λ (x : Placed). SubtreeLies x a.row.ref_ptr (a.row.ref_ptr.0, c.in-Span.begin * 2 + a.row.ref_ptr.1)) (sym span) (refl, refl))
 
-pub subtree-spec : {M : Type 1} → statement M
-subtree-spec =
+pub subtree_spec : {M : Type 1} → statement M
+subtree_spec =
     tie.close
     (tie.spec
     subtree-answer-requires

@@ -19,62 +19,59 @@ a s = alphabet_of s.args.arities.now
 abbrev P : tie.Start → Programme
 P s = programme s.args.row.now s.args.table.now s.args.classes.now
 
-module _ (c : tie.After-enum-told) where
-  abbrev s : tie.Start
-  s = c.before.before.before.before.before.before.before.before.before.before.before
+module _ (c : tie.In-Fine) where
+  fine : results_check (a c.before.before.before.before.before.before.before.before.before.before) (P c.before.before.before.before.before.before.before.before.before.before) c.args.patterns.now c.args.lengths.now (length c.args.results.now) ≡ Fine
+  fine = sym c.check_sheet.ensures ∙ c.in-Fine.is
 
-  fine : results_check (a s) (P s) s.args.patterns.now s.args.lengths.now (length s.args.results.now) ≡ Fine
-  fine = sym c.before.before.check-sheet.ensures ∙ c.enum_told.given.1
-
-check-sheet-requires : tie.Need-check-sheet-requires
+check-sheet-requires : tie.Need-check_sheet-requires
 check-sheet-requires c κs = search rules
 
-enum-known-r : tie.Need-enum-known-r
+enum-known-r : tie.Need-enum_known-r
 enum-known-r c = search rules
 
-enum_told : tie.Need-enum-told
+enum_told : tie.Need-enum_told-1
 enum_told c = search rules
 
-answer-sheet-requires : tie.Need-answer-sheet-requires
+answer-sheet-requires : tie.Need-answer_sheet-listed-requires
 answer-sheet-requires c κs =
-    let e = c.before.before in
-    sheet_answerable (a (s e)) (P (s e)) (s e).args.patterns.now (s e).args.lengths.now (s e).args.positions.now (s e).args.results.now (fine e)
+    let e = c.before.before.before.before.before.before.before.before.before.before.before.before in
+    sheet_answerable (a e) (P e) c.args.patterns.now c.args.lengths.now c.args.positions.now c.args.results.now (fine c.before.before)
 
-enum-known-listed : tie.Need-enum-known-listed
+enum-known-listed : tie.Need-enum_known-listed
 enum-known-listed c = search rules
 
-enum-known-listed-2 : tie.Need-enum-known-listed-2
+enum-known-listed-2 : tie.Need-enum_known-listed-in-Needs-1
 enum-known-listed-2 c = search rules
 
-returns : tie.Need-returns
+returns : tie.Need-returns-in-Refused
 returns c =
-    let s = c.before.before.before.before.before.before.before.before.before.before.before.before in
-    sheet_refused (a s) (P s) s.args.patterns.now s.args.lengths.now s.args.positions.now s.args.results.now _ (sym c.before.before.before.check-sheet.ensures ∙ c.before.r.given.1)
+    let s = c.before.before.before.before.before.before.before.before.before.before in
+    sheet_refused (a s) (P s) c.args.patterns.now c.args.lengths.now c.args.positions.now c.args.results.now _ (sym c.check_sheet.ensures ∙ c.in-Refused.is)
 
-same_length : tie.Need-same-length
+same_length : tie.Need-shape_of-positions-in-All
 same_length c = search rules
 
-same-length-2 : tie.Need-same-length-2
+same-length-2 : tie.Need-shape_of-results-in-All
 same-length-2 c = search rules
 
-returns-2 : tie.Need-returns-2
+returns-2 : tie.Need-returns-in-All
 returns-2 c =
-    let e = c.before.before.before.before.before.before.before.before.before.before in
-    sheet_all (a (s e)) (P (s e)) (s e).args.patterns.now (s e).args.lengths.now (s e).args.positions.now (s e).args.results.now (fine e) _ _ _ _ c.before.before.before.before.before.before.before.answer-sheet.ensures c.before.listed.given.1
+    let e = c.before.before.before.before.before.before.before.before.before.before.before.before.before.before.before.before.before.before in
+    sheet_all (a e) (P e) c.args.patterns.now c.args.lengths.now c.args.positions.now c.args.results.now (fine c.before.before.before.before.before.before.before.before) _ _ _ _ c.answer_sheet-listed.ensures c.in-All.is
 
-same-length-3 : tie.Need-same-length-3
+same-length-3 : tie.Need-shape_of-positions-in-Needs
 same-length-3 c = search rules
 
-same-length-4 : tie.Need-same-length-4
+same-length-4 : tie.Need-shape_of-results-in-Needs
 same-length-4 c = search rules
 
-returns-3 : tie.Need-returns-3
+returns-3 : tie.Need-returns-in-Needs
 returns-3 c =
-    let e = c.before.before.before.before.before.before.before.before.before.before in
-    sheet_needs (a (s e)) (P (s e)) (s e).args.patterns.now (s e).args.lengths.now (s e).args.positions.now (s e).args.results.now (fine e) _ _ _ _ c.before.before.before.before.before.before.before.answer-sheet.ensures c.before.listed2.given.1
+    let e = c.before.before.before.before.before.before.before.before.before.before.before.before.before.before.before.before.before.before in
+    sheet_needs (a e) (P e) c.args.patterns.now c.args.lengths.now c.args.positions.now c.args.results.now (fine c.before.before.before.before.before.before.before.before) _ _ _ _ c.answer_sheet-listed.ensures c.in-Needs.is
 
-pub sheet-spec : {M : Type 1} → statement M
-sheet-spec =
+pub sheet_spec : {M : Type 1} → statement M
+sheet_spec =
     tie.close
     (tie.spec
     check-sheet-requires

@@ -14,68 +14,72 @@ use borrow.Author.Rules.{rules}
 use Rattle.sparrowhem.proofs.table.build.Statement.{statement}
 use Rattle.sparrowhem.proofs.table.build.Tie as tie
 
--- what the call is lent
-abbrev start : tie.After-check-build → tie.Start
-start c = c.before.before.before.before.before.before.before
+abbrev a : tie.After-check_build → Alphabet
+a c = alphabet_of c.args.arities.now
 
-abbrev a : tie.After-check-build → Alphabet
-a c = alphabet_of (start c).args.arities.now
+abbrev P : tie.After-check_build → Programme
+P c = programme c.args.row.now c.args.table.now c.args.classes.now
 
-abbrev P : tie.After-check-build → Programme
-P c = programme (start c).args.row.now (start c).args.table.now (start c).args.classes.now
+fine : (c : tie.In-Fine) → build_check (a c.before) (P c.before) ≡ Fine
+fine c =
+    let s = c.before in
+    sym c.check_build.ensures ∙ c.in-Fine.is
 
-fine : (c : tie.After-enum-told) → build_check (a c.before.before) (P c.before.before) ≡ Fine
-fine c = sym c.before.before.check-build.ensures ∙ c.enum_told.given.1
-
-check-build-requires : tie.Need-check-build-requires
+check-build-requires : tie.Need-check_build-requires
 check-build-requires c κs = search rules
 
-enum-known-r : tie.Need-enum-known-r
+enum-known-r : tie.Need-enum_known-r
 enum-known-r c = search rules
 
-enum_told : tie.Need-enum-told
+enum_told : tie.Need-enum_told-1
 enum_told c = search rules
 
-fill-ends-requires : tie.Need-fill-ends-requires
-fill-ends-requires c κs = let b = c.before.before.before in build_fillable (a b) (P b) (fine c.before)
+fill-ends-requires : tie.Need-fill_ends-requires
+fill-ends-requires c κs =
+    let b = c.before.before in
+    build_fillable (a b) (P b) (fine c.before)
 
 -- the table is filled in
-right : (c : tie.After-fill-ends) → (let b = c.before.before.before.before in Right (a b).arities (P b).row c.fill-ends.new.1.1.0)
-right c = let b = c.before.before.before.before in filled_right (a b).arities (P b).row (P b).table _ (build_fillable (a b) (P b) (fine c.before.before)) c.fill-ends.ensures
+right : (c : tie.After-fill_ends) → (Right (a c.before.before.before).arities (P c.before.before.before).row c.fill_ends.new.table)
+right c =
+    let b = c.before.before.before in
+    filled_right (a b).arities (P b).row (P b).table _ (build_fillable (a b) (P b) (fine c.before.before)) c.fill_ends.ensures
 
-fill-classes-requires : tie.Need-fill-classes-requires
-fill-classes-requires c κs = let b = c.before.before.before.before.before.before.before.before in (((a b).arities, right c.before.before.before.before), build_classes (a b) (P b) (fine c.before.before.before.before.before.before))
+fill-classes-requires : tie.Need-fill_classes-requires
+fill-classes-requires c κs =
+    let b = c.before.before.before.before.before.before in
+    (((a b).arities, right c.before.before.before), build_classes (a b) (P b) (fine c.before.before.before.before.before))
 
-same_length : tie.Need-same-length
+same_length : tie.Need-shape_of-table-in-Refused
 same_length c = search rules
 
-same-length-2 : tie.Need-same-length-2
+same-length-2 : tie.Need-shape_of-classes-in-Refused
 same-length-2 c = search rules
 
-returns : tie.Need-returns
+returns : tie.Need-returns-in-Refused
 returns c =
-    let b = c.before.before.before in
-    let e = sym b.check-build.ensures ∙ c.before.r.given.1 in
+    let b = c.before in
+    let e = sym c.check_build.ensures ∙ c.in-Refused.is in
     record { answer = sym e; lists = sym (ap (λ (x : Check). after x (built (a b) (P b)) (P b)) e) }
 
-same-length-3 : tie.Need-same-length-3
+same-length-3 : tie.Need-shape_of-table-in-Fine
 same-length-3 c = search rules
 
-same-length-4 : tie.Need-same-length-4
+same-length-4 : tie.Need-shape_of-classes-in-Fine
 same-length-4 c = search rules
 
-returns-2 : tie.Need-returns-2
+returns-2 : tie.Need-returns-in-Fine
 unfolding table
 returns-2 c =
-    let f = c.before.before.before.before.before.before.before in let b = c.before.before.before.before.before.before.before.before.before.before.before in
-    let e = fine c.before.before.before.before.before.before.before.before.before in
+    let f = c.before.before.before.before.before.before.before.before.before in
+    let e = fine c.before.before.before.before.before.before.before.before in
     record {
       answer = sym e;
-      lists = ap₂ (programme (P b).row) f.fill-ends.ensures (c.before.before.fill-classes.ensures (a b).arities (right f)) ∙ sym (ap (λ (x : Check). after x (built (a b) (P b)) (P b)) e);
+      lists = ap₂ (programme (P f).row) c.fill_ends.ensures (c.fill_classes.ensures (a f).arities (right c.before.before.before.before.before.before)) ∙ sym (ap (λ (x : Check). after x (built (a f) (P f)) (P f)) e);
     }
 
-pub build-spec : {M : Type 1} → statement M
-build-spec =
+pub build_spec : {M : Type 1} → statement M
+build_spec =
     tie.close
     (tie.spec
     check-build-requires
