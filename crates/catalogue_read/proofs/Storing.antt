@@ -1,4 +1,4 @@
--- Laws of the records with a file's entries written to the firstRow.
+-- Laws of the records with a file's entries written to the front.
 -- Assumes nothing.
 use Prim.Native.Nat.{ℕ, zero, suc, ◌+◌, ◌*◌, ◌≤◌, ◌<◌}
 use mathlib.Core.Path.{◌≡◌, refl, sym, ap, ap₂, ◌∙◌}
@@ -26,7 +26,7 @@ unfolding stored
 length-stored w zero es = refl
 length-stored w (suc n) es = length-set (stored w n es) n (entry_at w (2 + 6 * n)) ∙ length-stored w n es
 
--- the entries written one after the other stand in firstRow of the later records
+-- the entries written one after the other stand in front of the later records
 next : (bs es : List Entry) (n : ℕ) (e : Entry) → length bs ≡ n → n < length es → set (bs ++ drop n es) n e ≡ (bs ++ (e ∷ [])) ++ drop (suc n) es
 next [] es zero e h k = first es k
   where

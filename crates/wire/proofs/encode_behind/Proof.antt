@@ -1,6 +1,5 @@
 -- `wire::encode_behind` meets its contract: the part behind the first numbers is lent.
 -- Assumes nothing.
--- the place behind the first numbers
 use Prim.Native.Nat.{ℕ, ◌*◌, ◌-◌, ◌≤◌}
 use mathlib.Core.Path.{ap, ◌∙◌}
 use mathlib.Core.List.{List, ◌++◌}
@@ -14,6 +13,7 @@ use borrow.Author.Rules.{rules}
 use Rattle.wire.proofs.encode_behind.Statement.{statement}
 use Rattle.wire.proofs.encode_behind.Tie as tie
 
+-- the place behind the first numbers
 within : (s : tie.Start) → 2 * s.args.before ≤ length s.args.bytes.now
 within s = omega (arith, numbers-length s.args.bytes.now, s.requires)
 

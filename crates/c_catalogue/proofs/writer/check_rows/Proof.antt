@@ -1,6 +1,5 @@
 -- `c_catalogue::check_rows` meets its contract. The loop's invariant: all that is said is said of the rows from k on.
 -- Assumes nothing.
--- the lengths from k on add up to what is left of the rows
 use Prim.Native.Nat.{ℕ, ◌+◌, ◌-◌, ◌*◌, ◌≤◌, ◌<◌}
 use mathlib.Core.Path.{ap₂, ◌≡◌, refl, sym, ap, ◌∙◌}
 use mathlib.Core.List.{List}
@@ -19,6 +18,7 @@ use borrow.Author.Rules.{rules}
 use Rattle.c_catalogue.proofs.writer.check_rows.Statement.{statement}
 use Rattle.c_catalogue.proofs.writer.check_rows.Tie as tie
 
+-- the lengths from k on add up to what is left of the rows
 abbrev invariant-loop : tie.invariant-loop-k
 invariant-loop arities numbers lengths rows next₀ k₀ next k =
     (k ≤ length numbers)

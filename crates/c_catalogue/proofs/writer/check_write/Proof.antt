@@ -1,6 +1,5 @@
 -- `c_catalogue::check_write` meets its contract. The checks on the way decide each case.
 -- Assumes nothing.
--- what is checked first, of the numbers of the rows' bytes
 use Prim.Native.Nat.{ℕ}
 use mathlib.Core.Path.{◌≡◌, sym, ap, ◌∙◌}
 use mathlib.Core.List.{List}
@@ -14,6 +13,7 @@ use borrow.Author.Rules.{rules}
 use Rattle.c_catalogue.proofs.writer.check_write.Statement.{statement}
 use Rattle.c_catalogue.proofs.writer.check_write.Tie as tie
 
+-- what is checked first, of the numbers of the rows' bytes
 module _ (c : tie.After-check_given) where
   abbrev A : List ℕ
   A = c.args.arities.now
