@@ -6,17 +6,23 @@ use borrow.Author.Rules.{rules}
 use Rattle.c_lent.proofs.refusal_of.Statement.{statement}
 use Rattle.c_lent.proofs.refusal_of.Tie as tie
 
-number-of-requires : tie.Need-number-of-requires
+number-of-requires : tie.Need-number_of-requires
 number-of-requires c κs = search rules
 
-cast-t3 : tie.Need-overflow-cast-t3
-cast-t3 c = omega (arith, c.number_of_lem.ensures, number-few c.before.args.refusal)
+cast-t3 : tie.Need-overflow_cast-result
+cast-t3 c = omega (arith, c.number_of.ensures, number-few c.args.refusal)
 
-place-of-requires : tie.Need-place-of-requires
+place-of-requires : tie.Need-place_of-requires
 place-of-requires c κs = search rules
 
 returns : tie.Need-returns
 returns c = cc
 
-pub refusal-of-spec : {M : Type 1} → statement M
-refusal-of-spec = tie.close (tie.spec number-of-requires cast-t3 place-of-requires returns)
+pub refusal_of_spec : {M : Type 1} → statement M
+refusal_of_spec =
+    tie.close
+    (tie.spec
+    number-of-requires
+    cast-t3
+    place-of-requires
+    returns)

@@ -20,23 +20,23 @@ use Rattle.c_lent.proofs.alphabet.read_alphabet.Statement.{statement}
 use Rattle.c_lent.proofs.alphabet.read_alphabet.Tie as tie
 
 -- the numbers at the front of the room
-front : (c : tie.After-decode) → take c.before.before.before.count.result c.decode.new.1.1.0 ≡ numbers c.before.before.before.before.before.before.args.arities.now
+front : (c : tie.After-decode) → take c.count-k.result c.decode.new.room ≡ numbers c.args.arities.now
 front c =
-    let A = numbers c.before.before.before.before.before.before.args.arities.now in
-    let k = c.before.before.before.count in
+    let A = numbers c.args.arities.now in
+    let k = c.count-k in
     ap (take k.result) c.decode.ensures
-    ∙ front_read A c.before.before.before.before.before.before.args.room.now k.result (omega (arith, k.ensures))
+    ∙ front_read A c.args.room.now k.result (omega (arith, k.ensures))
     ∙ ap (λ (n : ℕ). take n A) k.ensures
     ∙ take-length A
 
-count-requires : tie.Need-count-requires
+count-requires : tie.Need-count-k-requires
 count-requires c κs = search rules
 
-returns : tie.Need-returns
+returns : tie.Need-returns-then-k-gt-ALPHABET_MOST
 returns c =
-    let A = numbers c.before.before.before.before.args.arities.now in
-    let k = c.before.count.ensures in
-    let over : alphabet_most < length A = omega (arith, k, c.if1.true) in
+    let A = numbers c.args.arities.now in
+    let k = c.count-k.ensures in
+    let over : alphabet_most < length A = omega (arith, k, c.if-k-gt-ALPHABET_MOST.true) in
     record {
       answer = ap (λ (n : ℕ). Refused (Arities (Count n))) k ∙ sym (alphabet_long A over);
       few = λ e. absurd (clash _ _ e refl);
@@ -46,30 +46,30 @@ returns c =
 decode-requires : tie.Need-decode-requires
 decode-requires c κs = search rules
 
-slice-reshare-prefix-check-alphabet : tie.Need-slice-reshare-prefix-check-alphabet
+slice-reshare-prefix-check-alphabet : tie.Need-slice_bounds-check_alphabet-end
 slice-reshare-prefix-check-alphabet c = search rules
 
-slice-aggregate-check-alphabet : tie.Need-slice-aggregate-check-alphabet
-slice-aggregate-check-alphabet c = sym (length-take-le _ _ (slice-reshare-prefix-check-alphabet c.before))
+slice-aggregate-check-alphabet : tie.Need-slice_bounds-check_alphabet-end-2
+slice-aggregate-check-alphabet c = sym (length-take-le _ _ (slice-reshare-prefix-check-alphabet c))
 
-check-alphabet-requires : tie.Need-check-alphabet-requires
+check-alphabet-requires : tie.Need-check_alphabet-requires
 check-alphabet-requires c κs = search rules
 
-same_length : tie.Need-same-length
+same_length : tie.Need-shape_of-room
 same_length c = search rules
 
-returns-2 : tie.Need-returns-2
+returns-2 : tie.Need-returns
 returns-2 c =
-    let k = c.before.before.before.before.before.before.before.count.ensures in
-    let f = front c.before.before.before.before in
+    let k = c.count-k.ensures in
+    let f = front c.before.before.before in
     record {
-      answer = c.check-alphabet.ensures ∙ ap (λ (l : List ℕ). alphabet (alphabet_of l)) f;
-      few = λ e. omega (arith, k, c.before.before.before.before.before.before.if1.false);
-      front = λ e. ap (λ (n : ℕ). take n c.before.before.before.before.decode.new.1.1.0) (sym k) ∙ f;
+      answer = c.check_alphabet.ensures ∙ ap (λ (l : List ℕ). alphabet (alphabet_of l)) f;
+      few = λ e. omega (arith, k, c.if-k-gt-ALPHABET_MOST.false);
+      front = λ e. ap (λ (n : ℕ). take n c.decode.new.room) (sym k) ∙ f;
     }
 
-pub read-alphabet-spec : {M : Type 1} → statement M
-read-alphabet-spec =
+pub read_alphabet_spec : {M : Type 1} → statement M
+read_alphabet_spec =
     tie.close
     (tie.spec
     count-requires

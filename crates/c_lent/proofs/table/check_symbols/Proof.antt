@@ -6,23 +6,29 @@ use borrow.Author.Rules.{rules}
 use Rattle.c_lent.proofs.table.check_symbols.Statement.{statement}
 use Rattle.c_lent.proofs.table.check_symbols.Tie as tie
 
-check-row-requires : tie.Need-check-row-requires
+check-row-requires : tie.Need-check_row-requires
 check-row-requires c κs = search rules
 
-enum-known-f : tie.Need-enum-known-f
+enum-known-f : tie.Need-enum_known-f
 enum-known-f c = search rules
 
-enum_told : tie.Need-enum-told
+enum_told : tie.Need-enum_told-1
 enum_told c = search rules
 
-returns : tie.Need-returns
+returns : tie.Need-returns-in-Faulty
 unfolding symbols
-returns c = simp (sym c.before.before.before.check-row.ensures ∙ c.before.f.given.1)
+returns c = simp (sym c.check_row.ensures ∙ c.in-Faulty.is)
 
-returns-2 : tie.Need-returns-2
+returns-2 : tie.Need-returns-in-Whole
 unfolding symbols
-returns-2 c = simp (sym c.before.before.check-row.ensures ∙ c.enum_told.given.1)
+returns-2 c = simp (sym c.check_row.ensures ∙ c.in-Whole.is)
 
-pub check-symbols-spec : {M : Type 1} → statement M
-check-symbols-spec =
-    tie.close (tie.spec check-row-requires enum-known-f enum_told returns returns-2)
+pub check_symbols_spec : {M : Type 1} → statement M
+check_symbols_spec =
+    tie.close
+    (tie.spec
+    check-row-requires
+    enum-known-f
+    enum_told
+    returns
+    returns-2)
