@@ -10,35 +10,34 @@ use Rattle.c_copied.proofs.copies.copy_kept.Statement.{statement}
 use Rattle.c_copied.proofs.copies.copy_kept.Tie as tie
 
 decode-requires : tie.Need-decode-requires
-decode-requires c κs = let s = c.before.before.before.before.before.before.before in (omega (arith, s.requires), omega (arith, s.requires))
+decode-requires c κs = (omega (arith, c.requires), omega (arith, c.requires))
 
 decode-requires-2 : tie.Need-decode-requires-2
-decode-requires-2 c κs = let s = c.before.before.before.before.before.before.before.before.before.before.before in (omega (arith, s.requires), omega (arith, s.requires))
+decode-requires-2 c κs = (omega (arith, c.requires), omega (arith, c.requires))
 
 decode-requires-3 : tie.Need-decode-requires-3
-decode-requires-3 c κs = let s = c.before.before.before.before.before.before.before.before.before.before.before.before.before.before.before in (omega (arith, s.requires), omega (arith, s.requires))
+decode-requires-3 c κs = (omega (arith, c.requires), omega (arith, c.requires))
 
-same_length : tie.Need-same-length
+same_length : tie.Need-shape_of-w
 same_length c = search rules
 
-same-length-2 : tie.Need-same-length-2
+same-length-2 : tie.Need-shape_of-t
 same-length-2 c = search rules
 
-same-length-3 : tie.Need-same-length-3
+same-length-3 : tie.Need-shape_of-c
 same-length-3 c = search rules
 
 returns : tie.Need-returns
 returns c =
-    let s = c.before.before.before.before.before.before.before.before.before.before.before.before.before.before.before.before.before.before in
-    let n = s.args.n in
+    let n = c.args.n in
     record {
-      row = ap (take n) c.before.before.before.before.before.before.before.before.before.before.decode.ensures ∙ front_read (numbers s.args.row.now) s.args.w.now n (omega (arith, s.requires));
-      table = ap (take n) c.before.before.before.before.before.before.decode2.ensures ∙ front_read (numbers s.args.table.now) s.args.t.now n (omega (arith, s.requires));
-      classes = ap (take n) c.before.before.decode3.ensures ∙ front_read (numbers s.args.classes.now) s.args.c.now n (omega (arith, s.requires));
+      row = ap (take n) c.decode.ensures ∙ front_read (numbers c.args.row.now) c.args.w.now n (omega (arith, c.requires));
+      table = ap (take n) c.decode-2.ensures ∙ front_read (numbers c.args.table.now) c.args.t.now n (omega (arith, c.requires));
+      classes = ap (take n) c.decode-3.ensures ∙ front_read (numbers c.args.classes.now) c.args.c.now n (omega (arith, c.requires));
     }
 
-pub copy-kept-spec : {M : Type 1} → statement M
-copy-kept-spec =
+pub copy_kept_spec : {M : Type 1} → statement M
+copy_kept_spec =
     tie.close
     (tie.spec
     decode-requires

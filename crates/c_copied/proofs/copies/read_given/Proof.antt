@@ -25,207 +25,192 @@ use Rattle.c_copied.proofs.copies.read_given.Statement.{statement}
 use Rattle.c_copied.proofs.copies.read_given.Tie as tie
 
 -- what the call is lent, and the check of the sizes
-module _ (c : tie.After-read-sizes) where
-  abbrev start : tie.Start
-  start = c.before.before.before.before.before.before.before.before.before.before.before.before.before.before.before
-
+module _ (c : tie.After-read_sizes-sizes) where
   abbrev A : List ℕ
-  A = numbers start.args.arities.now
+  A = numbers c.args.arities.now
 
   abbrev P : Programme
-  P = numbers_of (lent start.args.row.now start.args.table.now start.args.classes.now)
+  P = numbers_of (lent c.args.row.now c.args.table.now c.args.classes.now)
 
-  n-is : c.before.before.before.before.before.count.result ≡ length P.row
-  n-is = c.before.before.before.before.before.count.ensures
+  n-is : c.count-n.result ≡ length P.row
+  n-is = c.count-n.ensures
 
-  sized : (r : Check) → c.read-sizes.result ≡ r → sizes_check (alphabet_of A) (length P.row) (room P) ≡ r
+  sized : (r : Check) → c.read_sizes-sizes.result ≡ r → sizes_check (alphabet_of A) (length P.row) (room P) ≡ r
   sized r e =
       ap₂ (sizes_check (alphabet_of A)) (sym n-is)
-      (sym (c.before.before.shortest.ensures ∙ ap₂ min n-is (ap₂ min c.before.before.before.before.count2.ensures c.before.before.before.count3.ensures)))
-      ∙ sym c.read-sizes.ensures.answer
+      (sym (c.shortest-places.ensures ∙ ap₂ min n-is (ap₂ min c.count.ensures c.count-2.ensures)))
+      ∙ sym c.read_sizes-sizes.ensures.answer
       ∙ e
 
--- the sizes are fine
-module _ (c : tie.After-enum-told) where
-  abbrev sizes : tie.After-read-sizes
-  sizes = c.before.before.before.before
+-- the c are fine
+module _ (c : tie.In-Fine) where
+  e : c.read_sizes-sizes.result ≡ Fine
+  e = c.in-Fine.is
 
-  e : sizes.read-sizes.result ≡ Fine
-  e = c.enum_told.given.1
-
-  fits : Fits (length (P sizes).row) (room (P sizes))
-  fits = sizes_left (alphabet_of (A sizes)) (P sizes) (length (P sizes).row) (sized sizes Fine e)
+  fits : Fits (length (P c.before.before.before).row) (room (P c.before.before.before))
+  fits = sizes_left (alphabet_of (A c.before.before.before)) (P c.before.before.before) (length (P c.before.before.before).row) (sized c.before.before.before Fine e)
 
 -- the copies
-module _ (c : tie.After-copy-kept) where
-  abbrev s : tie.After-read-sizes
-  s = sizes c.before.before.before.before
-
+module _ (c : tie.After-copy_kept) where
   abbrev w : List ℕ
-  w = c.copy-kept.new.1.1.1.1.0
+  w = c.copy_kept.new.w
 
   abbrev t : List ℕ
-  t = c.copy-kept.new.1.1.1.1.1.0
+  t = c.copy_kept.new.t
 
   abbrev k : List ℕ
-  k = c.copy-kept.new.1.1.1.1.1.1.0
+  k = c.copy_kept.new.c
 
-  copied : Copied (P s) (length (P s).row) w t k
-  copied = subst (λ (i : ℕ). Copied (P s) i w t k) (n-is s) c.copy-kept.ensures
+  copied : Copied (P c.before.before.before.before.before.before.before) (length (P c.before.before.before.before.before.before.before).row) w t k
+  copied = subst (λ (i : ℕ). Copied (P c.before.before.before.before.before.before.before) i w t k) (n-is c.before.before.before.before.before.before.before) c.copy_kept.ensures
 
-  long_w : length (P s).row ≤ length w
-  long_w = omega (arith, c.copy-kept.auto.1.1.1.1.0, (fits c.before.before.before.before).most, (start s).pre.1.0)
+  long_w : length (P c.before.before.before.before.before.before.before).row ≤ length w
+  long_w = omega (arith, c.copy_kept.auto.w, (fits c.before.before.before.before).most, c.requires.1.0)
 
-  long_t : length (P s).row ≤ length t
-  long_t = omega (arith, c.copy-kept.auto.1.1.1.1.1.0, (fits c.before.before.before.before).most, (start s).pre.1.1)
+  long_t : length (P c.before.before.before.before.before.before.before).row ≤ length t
+  long_t = omega (arith, c.copy_kept.auto.t, (fits c.before.before.before.before).most, c.requires.1.1)
 
-  long-k : length (P s).row ≤ length k
-  long-k = omega (arith, c.copy-kept.auto.1.1.1.1.1.1.0, (fits c.before.before.before.before).most, (start s).pre.1.2)
+  long-k : length (P c.before.before.before.before.before.before.before).row ≤ length k
+  long-k = omega (arith, c.copy_kept.auto.c, (fits c.before.before.before.before).most, c.requires.1.2)
 
 -- what the pass over the copies finds
-module _ (c : tie.After-check-beside) where
-  abbrev d : tie.After-copy-kept
-  d = c.before.before.before.before.before.before.before.before.before.before.before.before.before
+module _ (c : tie.After-check_beside) where
+  alphabet-is : take c.count-k.result c.read_sizes-sizes.new.room ≡ A c.before.before.before.before.before.before.before.before.before.before.before.before.before.before.before.before
+  alphabet-is = ap (λ (k : ℕ). take k c.read_sizes-sizes.new.room) c.count-k.ensures ∙ c.read_sizes-sizes.ensures.front (e c.before.before.before.before.before.before.before.before.before.before.before.before.before)
 
-  alphabet-is : take c.before.before.before.before.before.before.count4.result (s d).read-sizes.last.1.0 ≡ A (s d)
-  alphabet-is = ap (λ (k : ℕ). take k (s d).read-sizes.last.1.0) c.before.before.before.before.before.before.count4.ensures ∙ (s d).read-sizes.ensures.front (e c.before.before.before.before.before.before.before.before.before.before.before.before.before.before.before.before.before)
-
-  told : (x : Keeping) → c.check-beside.result ≡ x → found (A (s d)) (P (s d)) (w d) (t d) (k d) (sized (s d) Fine (e c.before.before.before.before.before.before.before.before.before.before.before.before.before.before.before.before.before)) (copied d) (long_t d) (long-k d) ≡ keeps Row x
+  told : (x : Keeping) → c.check_beside.result ≡ x → found (A c.before.before.before.before.before.before.before.before.before.before.before.before.before.before.before.before) (P c.before.before.before.before.before.before.before.before.before.before.before.before.before.before.before.before) (w c.before.before.before.before.before.before.before.before.before) (t c.before.before.before.before.before.before.before.before.before) (k c.before.before.before.before.before.before.before.before.before) (sized c.before.before.before.before.before.before.before.before.before.before.before.before.before.before.before.before Fine (e c.before.before.before.before.before.before.before.before.before.before.before.before.before)) (copied c.before.before.before.before.before.before.before.before.before) (long_t c.before.before.before.before.before.before.before.before.before) (long-k c.before.before.before.before.before.before.before.before.before) ≡ keeps Row x
   told x z =
-      ap₂ (λ (A : List ℕ) (n : ℕ). symbols Row A (take n (w d)) then fresh Row A (take n (w d)) (take n (t d)) then classed Row A (take n (w d)) (take n (k d))) (sym alphabet-is) (sym (n-is (s d)))
-      ∙ sym (c.check-beside.ensures Row)
+      ap₂ (λ (A : List ℕ) (n : ℕ). symbols Row A (take n (w c.before.before.before.before.before.before.before.before.before)) then fresh Row A (take n (w c.before.before.before.before.before.before.before.before.before)) (take n (t c.before.before.before.before.before.before.before.before.before)) then classed Row A (take n (w c.before.before.before.before.before.before.before.before.before)) (take n (k c.before.before.before.before.before.before.before.before.before))) (sym alphabet-is) (sym (n-is c.before.before.before.before.before.before.before.before.before.before.before.before.before.before.before.before))
+      ∙ sym (c.check_beside.ensures Row)
       ∙ ap (keeps Row) z
 
-count-requires : tie.Need-count-requires
+count-requires : tie.Need-count-n-requires
 count-requires c κs = search rules
 
-count-requires-2 : tie.Need-count-requires-2
+count-requires-2 : tie.Need-count-requires
 count-requires-2 c κs = search rules
 
-count-requires-3 : tie.Need-count-requires-3
+count-requires-3 : tie.Need-count-requires-2
 count-requires-3 c κs = search rules
 
-shortest-requires : tie.Need-shortest-requires
+shortest-requires : tie.Need-shortest-places-requires
 shortest-requires c κs = search rules
 
-read-sizes-requires : tie.Need-read-sizes-requires
+read-sizes-requires : tie.Need-read_sizes-sizes-requires
 read-sizes-requires c κs = search rules
 
-enum_told : tie.Need-enum-told
+enum_told : tie.Need-enum_told-1
 enum_told c = search rules
 
-enum-told-2 : tie.Need-enum-told-2
+enum-told-2 : tie.Need-enum_told-in_default
 enum-told-2 c = search rules
 
-same_length : tie.Need-same-length
+same_length : tie.Need-shape_of-a-in_default
 same_length c = search rules
 
-returns : tie.Need-returns
+returns : tie.Need-returns-in_default
 returns c =
-    let k = c.before.before.before.before in
-    let z = c.enum-told2.given.1 in
+    let k = c.before.before.before in
+    let z = c.in_default.is in
     read_refused (A k) (P k) _ (given_goes_on (alphabet_of (A k)) (P k) (length (P k).row) _ (sized k _ z)) _ z _ _ _ _
 
-copy-kept-requires : tie.Need-copy-kept-requires
+copy-kept-requires : tie.Need-copy_kept-requires
 copy-kept-requires c κs =
-    let d = c.before.before.before in
-    let f = fits d in
-    let n = n-is (sizes d) in
-    let z = c.before.before.before.before.before.before.before.before.before.before.before.before.before.before.before.before.before.before.before.before.before.before in
-    (omega (arith, n, f.room), omega (arith, n, f.most, z.requires.1.0), omega (arith, n, f.most, z.requires.1.1), omega (arith, n, f.most, z.requires.1.2))
+    let f = fits c.before.before.before in
+    let n = n-is c.before.before.before.before.before.before in
+    (omega (arith, n, f.room), omega (arith, n, f.most, c.requires.1.0), omega (arith, n, f.most, c.requires.1.1), omega (arith, n, f.most, c.requires.1.2))
 
-count-requires-4 : tie.Need-count-requires-4
+count-requires-4 : tie.Need-count-k-requires
 count-requires-4 c κs = search rules
 
-slice-reshare-prefix-check-beside : tie.Need-slice-reshare-prefix-check-beside
+slice-reshare-prefix-check-beside : tie.Need-slice_bounds-check_beside-end
 slice-reshare-prefix-check-beside c =
-    let k = c.before.before.before.before.before.before.before.before.before.before.before.before.before.before.before in
-    omega (arith, k.read-sizes.ensures.few (e c.before.before.before.before.before.before.before.before.before.before.before), c.count4.ensures, k.read-sizes.auto, (start k).requires.0)
+    omega (arith, c.read_sizes-sizes.ensures.few (e c.before.before.before.before.before.before.before.before.before.before.before), c.count-k.ensures, c.read_sizes-sizes.auto.room, c.requires.0)
 
-slice-aggregate-check-beside : tie.Need-slice-aggregate-check-beside
-slice-aggregate-check-beside c = sym (length-take-le _ _ (slice-reshare-prefix-check-beside c.before))
+slice-aggregate-check-beside : tie.Need-slice_bounds-check_beside-end-2
+slice-aggregate-check-beside c = sym (length-take-le _ _ (slice-reshare-prefix-check-beside c))
 
-slice-reshare-prefix-check-beside-2 : tie.Need-slice-reshare-prefix-check-beside-2
-slice-reshare-prefix-check-beside-2 c = let d = c.before.before.before.before.before.before.before.before in omega (arith, n-is (s d), long_w d)
+slice-reshare-prefix-check-beside-2 : tie.Need-slice_bounds-check_beside-end-3
+slice-reshare-prefix-check-beside-2 c = omega (arith, n-is c.before.before.before.before.before.before.before.before.before.before.before.before.before.before, long_w c.before.before.before.before.before.before.before)
 
-slice-aggregate-check-beside-2 : tie.Need-slice-aggregate-check-beside-2
-slice-aggregate-check-beside-2 c = sym (length-take-le _ _ (slice-reshare-prefix-check-beside-2 c.before))
+slice-aggregate-check-beside-2 : tie.Need-slice_bounds-check_beside-end-4
+slice-aggregate-check-beside-2 c = sym (length-take-le _ _ (slice-reshare-prefix-check-beside-2 c))
 
-slice-reshare-prefix-check-beside-3 : tie.Need-slice-reshare-prefix-check-beside-3
-slice-reshare-prefix-check-beside-3 c = let d = c.before.before.before.before.before.before.before.before.before in omega (arith, n-is (s d), long_t d)
+slice-reshare-prefix-check-beside-3 : tie.Need-slice_bounds-check_beside-end-5
+slice-reshare-prefix-check-beside-3 c = omega (arith, n-is c.before.before.before.before.before.before.before.before.before.before.before.before.before.before, long_t c.before.before.before.before.before.before.before)
 
-slice-aggregate-check-beside-3 : tie.Need-slice-aggregate-check-beside-3
-slice-aggregate-check-beside-3 c = sym (length-take-le _ _ (slice-reshare-prefix-check-beside-3 c.before))
+slice-aggregate-check-beside-3 : tie.Need-slice_bounds-check_beside-end-6
+slice-aggregate-check-beside-3 c = sym (length-take-le _ _ (slice-reshare-prefix-check-beside-3 c))
 
-slice-reshare-prefix-check-beside-4 : tie.Need-slice-reshare-prefix-check-beside-4
-slice-reshare-prefix-check-beside-4 c = let d = c.before.before.before.before.before.before.before.before.before.before in omega (arith, n-is (s d), long-k d)
+slice-reshare-prefix-check-beside-4 : tie.Need-slice_bounds-check_beside-end-7
+slice-reshare-prefix-check-beside-4 c = omega (arith, n-is c.before.before.before.before.before.before.before.before.before.before.before.before.before.before, long-k c.before.before.before.before.before.before.before)
 
-slice-aggregate-check-beside-4 : tie.Need-slice-aggregate-check-beside-4
-slice-aggregate-check-beside-4 c = sym (length-take-le _ _ (slice-reshare-prefix-check-beside-4 c.before))
+slice-aggregate-check-beside-4 : tie.Need-slice_bounds-check_beside-end-8
+slice-aggregate-check-beside-4 c = sym (length-take-le _ _ (slice-reshare-prefix-check-beside-4 c))
 
-check-beside-requires : tie.Need-check-beside-requires
+check-beside-requires : tie.Need-check_beside-requires
 check-beside-requires c κs =
-    let d = c.before.before.before.before.before.before.before.before.before.before.before.before in
-    let f = fits c.before.before.before.before.before.before.before.before.before.before.before.before.before.before.before.before in
-    let n = n-is (s d) in
-    let z = c.before.before.before.before.before.before.before.before.before.before.before.before.before.before.before.before.before.before.before.before.before.before.before.before.before.before.before.before.before.before.before.before.before.before.before in
-    let long = length-take-le _ (w d) (slice-reshare-prefix-check-beside-2 c.before.before.before.before) in
-    let long-table = length-take-le _ (t d) (slice-reshare-prefix-check-beside-3 c.before.before.before) in
-    let long-classes = length-take-le _ (k d) (slice-reshare-prefix-check-beside-4 c.before.before) in
-    (record { most = omega (arith, n, long, f.most); fits = omega (arith, long, long-table) }, omega (arith, long, long-classes), omega (arith, n, long, f.most, z.requires.1.3))
+    let d = c.before.before.before.before.before.before.before.before in
+    let f = fits c.before.before.before.before.before.before.before.before.before.before.before.before in
+    let n = n-is c.before.before.before.before.before.before.before.before.before.before.before.before.before.before.before in
+    let long = length-take-le _ (w d) (slice-reshare-prefix-check-beside-2 c.before) in
+    let long-table = length-take-le _ (t d) (slice-reshare-prefix-check-beside-3 c.before) in
+    let long-classes = length-take-le _ (k d) (slice-reshare-prefix-check-beside-4 c.before) in
+    (record { most = omega (arith, n, long, f.most); fits = omega (arith, long, long-table) }, omega (arith, long, long-classes), omega (arith, n, long, f.most, c.requires.1.3))
 
-enum-known-x : tie.Need-enum-known-x
+enum-known-x : tie.Need-enum_known-x
 enum-known-x c = search rules
 
-enum-told-3 : tie.Need-enum-told-3
+enum-told-3 : tie.Need-enum_told-in-Sound
 enum-told-3 c = search rules
 
-same-length-2 : tie.Need-same-length-2
+same-length-2 : tie.Need-shape_of-a-in-Unsound
 same-length-2 c = search rules
 
-same-length-3 : tie.Need-same-length-3
+same-length-3 : tie.Need-shape_of-w-in-Unsound
 same-length-3 c = search rules
 
-same-length-4 : tie.Need-same-length-4
+same-length-4 : tie.Need-shape_of-t-in-Unsound
 same-length-4 c = search rules
 
-same-length-5 : tie.Need-same-length-5
+same-length-5 : tie.Need-shape_of-c-in-Unsound
 same-length-5 c = search rules
 
-same-length-6 : tie.Need-same-length-6
+same-length-6 : tie.Need-shape_of-room-in-Unsound
 same-length-6 c = search rules
 
-returns-2 : tie.Need-returns-2
+returns-2 : tie.Need-returns-in-Unsound
 returns-2 c =
-    let b = c.before.before.before.before.before in
-    let k = s (d b) in
-    let z = sized k Fine (e c.before.before.before.before.before.before.before.before.before.before.before.before.before.before.before.before.before.before.before.before.before.before) in
-    read_refused (A k) (P k) _ (whole_found (A k) (P k) (w (d b)) (t (d b)) _ z (copied (d b)) (long_t (d b)) (long-k (d b)) ∙ told b _ c.before.x.given.1) _ refl _ _ _ _
+    let s = c.before.before.before.before.before.before.before.before.before.before.before.before in
+    let b = c.before.before.before.before.before.before.before.before.before.before.before.before.before.before.before.before.before.before.before in
+    let z = sized b Fine (e c.before.before.before.before.before.before.before.before.before.before.before.before.before.before.before.before) in
+    read_refused (A b) (P b) _ (whole_found (A b) (P b) (w s) (t s) _ z (copied s) (long_t s) (long-k s) ∙ told c.before.before.before _ c.in-Unsound.is) _ refl _ _ _ _
 
-same-length-7 : tie.Need-same-length-7
+same-length-7 : tie.Need-shape_of-a-in-Sound
 same-length-7 c = search rules
 
-same-length-8 : tie.Need-same-length-8
+same-length-8 : tie.Need-shape_of-w-in-Sound
 same-length-8 c = search rules
 
-same-length-9 : tie.Need-same-length-9
+same-length-9 : tie.Need-shape_of-t-in-Sound
 same-length-9 c = search rules
 
-same-length-10 : tie.Need-same-length-10
+same-length-10 : tie.Need-shape_of-c-in-Sound
 same-length-10 c = search rules
 
-same-length-11 : tie.Need-same-length-11
+same-length-11 : tie.Need-shape_of-room-in-Sound
 same-length-11 c = search rules
 
-returns-3 : tie.Need-returns-3
+returns-3 : tie.Need-returns-in-Sound
 returns-3 c =
-    let b = c.before.before.before.before in
-    let k = s (d b) in
-    let z = sized k Fine (e c.before.before.before.before.before.before.before.before.before.before.before.before.before.before.before.before.before.before.before.before.before) in
-    read_fine (A k) (P k) (w (d b)) (t (d b)) _ z (copied (d b)) (long_t (d b)) (long-k (d b)) _ (k.read-sizes.ensures.front (e c.before.before.before.before.before.before.before.before.before.before.before.before.before.before.before.before.before.before.before.before.before)) (told b Sound c.enum-told3.given.1)
+    let i = c.before.before.before.before.before.before.before.before.before.before.before.before in
+    let s = c.before.before.before.before.before.before.before.before.before.before.before.before.before.before.before.before in
+    let b = c.before.before.before.before.before.before.before.before.before.before.before.before.before.before.before.before.before.before.before in
+    let z = sized b Fine (e s) in
+    read_fine (A b) (P b) (w i) (t i) _ z (copied i) (long_t i) (long-k i) _ (c.read_sizes-sizes.ensures.front (e s)) (told c.before.before.before Sound c.in-Sound.is)
 
-pub read-given-spec : {M : Type 1} → statement M
-read-given-spec =
+pub read_given_spec : {M : Type 1} → statement M
+read_given_spec =
     tie.close
     (tie.spec
     count-requires

@@ -14,69 +14,64 @@ use Rattle.c_copied.proofs.search.write_found.Statement.{statement}
 use Rattle.c_copied.proofs.search.write_found.Tie as tie
 
 -- what is searched, and the output's bytes
-module _ (c : tie.After-write-matches) where
-  abbrev start : tie.Start
-  start = c.before.before.before.before.before.before.before.before
-
+module _ (c : tie.After-write_matches-count) where
   abbrev P : Programme
-  P = programme start.args.row.now start.args.table.now start.args.classes.now
+  P = programme c.args.row.now c.args.table.now c.args.classes.now
 
-  small : Bytes start.args.out.now
-  small i = (c.before.before.slice-known2.given i).fits
+  small : Bytes c.args.out.now
+  small i = (c.slice_known-2-1.given i).fits
 
   -- as many matches as were written have room
-  within : c.write-matches.result ≤ length start.args.room.now
-  within = (c.write-matches.ensures start.pre.0.0 start.pre.0.1).told.1
+  within : c.write_matches-count.result ≤ length c.args.room.now
+  within = (c.write_matches-count.ensures c.requires.0.0 c.requires.0.1).told.1
 
-write-matches-requires : tie.Need-write-matches-requires
+write-matches-requires : tie.Need-write_matches-count-requires
 write-matches-requires c κs = search rules
 
 count-requires : tie.Need-count-requires
 count-requires c κs = search rules
 
-refusal-of-requires : tie.Need-refusal-of-requires
+refusal-of-requires : tie.Need-refusal_of-requires
 refusal-of-requires c κs = search rules
 
-same_length : tie.Need-same-length
+same_length : tie.Need-shape_of-room-then-count
 same_length c = search rules
 
-same-length-2 : tie.Need-same-length-2
+same-length-2 : tie.Need-shape_of-out-then-count
 same-length-2 c = search rules
 
-returns : tie.Need-returns
+returns : tie.Need-returns-then-count
 returns c a e =
-    let w = c.before.before.before.before.before.before in
-    let s = start w in
-    let n = w.write-matches in
-    found-short a (P w) s.args.pattern.now s.args.out.now (small w) e s.args.room.now n.new.1.1.1.1.0 n.result
-    (n.ensures a (search_checked a (P w) s.args.pattern.now e)) (omega (arith, c.before.if1.true, c.before.before.count.ensures)) c.refusal-of.result c.refusal-of.ensures
+    let w = c.before.before.before.before.before in
+    let n = c.write_matches-count in
+    found-short a (P w) c.args.pattern.now c.args.out.now (small w) e c.args.room.now n.new.out n.result
+    (n.ensures a (search_checked a (P w) c.args.pattern.now e)) (omega (arith, c.if-count.true, c.count.ensures)) c.refusal_of.result c.refusal_of.ensures
 
-slice-reshare-prefix-encode : tie.Need-slice-reshare-prefix-encode
-slice-reshare-prefix-encode c = let w = c.before.before.before.before.before in omega (arith, within w, w.write-matches.auto)
+slice-reshare-prefix-encode : tie.Need-slice_bounds-encode-end
+slice-reshare-prefix-encode c = omega (arith, within c.before.before.before.before, c.write_matches-count.auto.out)
 
-slice-aggregate-encode : tie.Need-slice-aggregate-encode
-slice-aggregate-encode c = sym (length-take-le _ _ (slice-reshare-prefix-encode c.before))
+slice-aggregate-encode : tie.Need-slice_bounds-encode-end-2
+slice-aggregate-encode c = sym (length-take-le _ _ (slice-reshare-prefix-encode c))
 
 encode-requires : tie.Need-encode-requires
-encode-requires c κs = omega (arith, slice-aggregate-encode c.before, c.before.before.if1.false, c.before.before.before.count.ensures)
+encode-requires c κs = omega (arith, slice-aggregate-encode c.before, c.if-count.false, c.count.ensures)
 
-same-length-3 : tie.Need-same-length-3
+same-length-3 : tie.Need-shape_of-room
 same-length-3 c = search rules
 
-same-length-4 : tie.Need-same-length-4
+same-length-4 : tie.Need-shape_of-out
 same-length-4 c = search rules
 
-returns-2 : tie.Need-returns-2
+returns-2 : tie.Need-returns
 returns-2 c a e =
-    let w = c.before.before.before.before.before.before.before.before.before.before in
-    let s = start w in
-    let n = w.write-matches in
-    let o = c.before.before.encode in
-    found_all a (P w) s.args.pattern.now s.args.out.now (small w) e s.args.room.now n.new.1.1.1.1.0 n.result
-    (n.ensures a (search_checked a (P w) s.args.pattern.now e)) (omega (arith, c.before.before.before.before.before.if1.false, c.before.before.before.before.before.before.count.ensures)) o.new.1.0 o.ensures
+    let w = c.before.before.before.before.before.before.before.before in
+    let n = c.write_matches-count in
+    let o = c.encode in
+    found_all a (P w) c.args.pattern.now c.args.out.now (small w) e c.args.room.now n.new.out n.result
+    (n.ensures a (search_checked a (P w) c.args.pattern.now e)) (omega (arith, c.if-count.false, c.count.ensures)) o.new.bytes o.ensures
 
-pub write-found-spec : {M : Type 1} → statement M
-write-found-spec =
+pub write_found_spec : {M : Type 1} → statement M
+write_found_spec =
     tie.close
     (tie.spec
     write-matches-requires
