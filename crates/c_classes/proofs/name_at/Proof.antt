@@ -82,7 +82,7 @@ cast-put-number-3 : tie.Need-overflow_cast-noted
 cast-put-number-3 c = search rules
 
 put-number-requires-3 : tie.Need-put_number-requires-2
-put-number-requires-3 c κs = search rules
+put-number-requires-3 c κs = let i = in_list c.before.before.before.before in search rules
 
 same-length-2 : tie.Need-shape_of-list
 same-length-2 c = search rules
