@@ -6,50 +6,50 @@ use borrow.Author.Rules.{rules}
 use Rattle.seek_text.proofs.search.find_in.Statement.{statement}
 use Rattle.seek_text.proofs.search.find_in.Tie as tie
 
-slice-aggregate-find-matches : tie.Need-slice-aggregate-find-matches
+slice-aggregate-find-matches : tie.Need-slice_bounds-find_matches-end
 slice-aggregate-find-matches c = simp length-take (omega arith)
 
-mul-find-matches : tie.Need-overflow-mul-find-matches
+mul-find-matches : tie.Need-offset_bounds-numbers-a
 mul-find-matches c = search rules
 
-sub-find-matches : tie.Need-overflow-sub-find-matches
+sub-find-matches : tie.Need-slice_bounds-find_matches-count
 sub-find-matches c = search rules
 
-part-find-matches-start : tie.Need-slice-bounds-find-matches-start
+part-find-matches-start : tie.Need-slice_bounds-find_matches-start
 part-find-matches-start c = search rules
 
-part-find-matches-end : tie.Need-slice-bounds-find-matches-end
+part-find-matches-end : tie.Need-slice_bounds-find_matches-end-2
 part-find-matches-end c = search rules
 
-mul-find-matches-2 : tie.Need-overflow-mul-find-matches-2
+mul-find-matches-2 : tie.Need-offset_bounds-numbers-e
 mul-find-matches-2 c = search rules
 
-sub-find-matches-2 : tie.Need-overflow-sub-find-matches-2
+sub-find-matches-2 : tie.Need-slice_bounds-find_matches-count-2
 sub-find-matches-2 c = search rules
 
-part-find-matches-start-2 : tie.Need-slice-bounds-find-matches-start-2
+part-find-matches-start-2 : tie.Need-slice_bounds-find_matches-start-2
 part-find-matches-start-2 c = search rules
 
-part-find-matches-end-2 : tie.Need-slice-bounds-find-matches-end-2
+part-find-matches-end-2 : tie.Need-slice_bounds-find_matches-end-3
 part-find-matches-end-2 c = search rules
 
-find-matches-requires : tie.Need-find-matches-requires
+find-matches-requires : tie.Need-find_matches-requires
 find-matches-requires c κs = search rules
 
-same_length : tie.Need-same-length
+same_length : tie.Need-shape_of-table
 same_length c = search rules
 
-same-length-2 : tie.Need-same-length-2
+same-length-2 : tie.Need-shape_of-classes
 same-length-2 c = search rules
 
-same-length-3 : tie.Need-same-length-3
+same-length-3 : tie.Need-shape_of-positions
 same-length-3 c = search rules
 
 returns : tie.Need-returns
-returns c = c.before.before.before.before.before.before.find-matches.ensures
+returns c = c.find_matches.ensures
 
-pub find-in-spec : {M : Type 1} → statement M
-find-in-spec =
+pub find_in_spec : {M : Type 1} → statement M
+find_in_spec =
     tie.close
     (tie.spec
     slice-aggregate-find-matches

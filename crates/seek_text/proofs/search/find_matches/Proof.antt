@@ -8,47 +8,44 @@ use Rattle.seek_text.proofs.search.find_matches.Tie as tie
 build-requires : tie.Need-build-requires
 build-requires c κs = search rules
 
-enum-known-r : tie.Need-enum-known-r
+enum-known-r : tie.Need-enum_known-r
 enum-known-r c = search rules
 
-enum_told : tie.Need-enum-told
+enum_told : tie.Need-enum_told-1
 enum_told c = search rules
 
 find-requires : tie.Need-find-requires
 find-requires c κs = search rules
 
-same_length : tie.Need-same-length
+same_length : tie.Need-shape_of-table-in-Refused
 same_length c = search rules
 
-same-length-2 : tie.Need-same-length-2
+same-length-2 : tie.Need-shape_of-classes-in-Refused
 same-length-2 c = search rules
 
-returns : tie.Need-returns
+returns : tie.Need-returns-in-Refused
 returns c =
-    let start = c.before.before.before.before.before.before.before.before.before.before.before.before.before.before.before.before in
-    let a = c.before.before.before.before.before.before.before.before.before.before.before.before.before.before.before.before.args in
-    searched_refused a.arities.now a.row.now a.pattern.now a.table.now _ a.classes.now _ a.positions.now a.positions.now start.requires.0 start.requires.1 start.requires.2
-    c.before.r.given.0.0 (rw c.before.r.given.1 at c.before.before.before.before.before.before.before.build.ensures)
+    let a = c.args in
+    searched_refused a.arities.now a.row.now a.pattern.now a.table.now _ a.classes.now _ a.positions.now a.positions.now c.requires.0 c.requires.1 c.requires.2
+    c.in-Refused.r (rw c.in-Refused.is at c.build.ensures)
 
-same-length-3 : tie.Need-same-length-3
+same-length-3 : tie.Need-shape_of-table-in-Fine
 same-length-3 c = search rules
 
-same-length-4 : tie.Need-same-length-4
+same-length-4 : tie.Need-shape_of-classes-in-Fine
 same-length-4 c = search rules
 
-same-length-5 : tie.Need-same-length-5
+same-length-5 : tie.Need-shape_of-positions
 same-length-5 c = search rules
 
-returns-2 : tie.Need-returns-2
+returns-2 : tie.Need-returns-in-Fine
 returns-2 c =
-    let start = c.before.before.before.before.before.before.before.before.before.before.before.before.before.before.before.before.before.before.before.before.before in
-    let at-build = c.before.before.before.before.before.before.before.before.before.before.before.before in
-    let a = c.before.before.before.before.before.before.before.before.before.before.before.before.before.before.before.before.before.before.before.before.before.args in
-    searched a.arities.now a.row.now a.pattern.now a.table.now _ a.classes.now _ a.positions.now _ start.requires.0 start.requires.1 start.requires.2
-    (rw c.before.before.before.before.before.before.enum_told.given.1 at at-build.build.ensures) c.before.before.find.result c.before.before.find.ensures
+    let a = c.args in
+    searched a.arities.now a.row.now a.pattern.now a.table.now _ a.classes.now _ a.positions.now _ c.requires.0 c.requires.1 c.requires.2
+    (rw c.in-Fine.is at c.build.ensures) c.find.result c.find.ensures
 
-pub find-matches-spec : {M : Type 1} → statement M
-find-matches-spec =
+pub find_matches_spec : {M : Type 1} → statement M
+find_matches_spec =
     tie.close
     (tie.spec
     build-requires
