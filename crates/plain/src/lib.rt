@@ -62,6 +62,7 @@ pub enum Tried {
 // Variable i at place b of the pattern, at the first tree of `rest`, which is the end of the part. At its first place it is marked,
 // and the tree's length is kept, unless only S stand behind. At a later one as many symbols are compared as the first has: no tree
 // is the beginning of another, so no end is looked for.
+#[tactic(auto, using(crate::proofs::Placing::meets_same, crate::proofs::Placing::meets_other))]
 fn variable(
     arities: &[u16],
     told: usize,
