@@ -1,7 +1,7 @@
 -- Demand 3 of specs/Demands, each sentence with its proof.
 -- Assumes nothing.
 use Prim.Native.Nat.{ℕ, ◌+◌, ◌≤◌, ◌<◌}
-use mathlib.Core.Path.{◌≡◌, refl, sym, ap, ap₂, ◌∙◌, subst}
+use mathlib.Core.Path.{◌≡◌, refl, sym, ap, ◌∙◌, subst}
 use mathlib.Core.List.{List, [], ◌∷◌, map}
 use mathlib.Core.Bool.{Bool, true, false}
 use mathlib.Core.Logic.{◌↔◌}
@@ -16,7 +16,7 @@ use Rattle.rows.specs.Programme.{Alphabet, Programme, programme, room, front, cu
 use Rattle.rows.specs.Tree.{Forest, size, prefix, ends, subtree_at}
 use Rattle.rows.specs.Parse.{parse, tree_of}
 use Rattle.rows.specs.Classes.{classes_of}
-use Rattle.rows.specs.Row.{pick, symbol, sized}
+use Rattle.rows.specs.Row.{pick, symbol}
 use Rattle.rows.specs.Refusals.{◌then◌, alphabet, sizes, symbols, fresh, classed, kept, given, pattern, position, output}
 use Rattle.rows.specs.declared.Refusal.{Refusal}
 use Rattle.rows.specs.declared.Refusal.TheVariants.{Row}
