@@ -28,142 +28,131 @@ use borrow.Author.Rules.{rules}
 use Rattle.c_sheets.proofs.answer_pattern.Statement.{statement}
 use Rattle.c_sheets.proofs.answer_pattern.Tie as tie
 
-module _ (c : tie.After-count) where
-  abbrev start : tie.Start
-  start = c.before.before.before.before.before.before.before.before.before
-
+module _ (c : tie.After-count-m) where
   abbrev a : Alphabet
-  a = alphabet_of start.args.arities.now
+  a = alphabet_of c.args.arities.now
 
   abbrev P : Programme
-  P = programme start.args.row.now start.args.table.now start.args.classes.now
+  P = programme c.args.row.now c.args.table.now c.args.classes.now
 
   abbrev p : List ℕ
-  p = numbers start.args.pattern.now
+  p = numbers c.args.pattern.now
 
 -- the copy of the pattern
-front : (c : tie.After-decode) → take c.before.before.before.count.result c.decode.new.1.1.0 ≡ p c.before.before.before
+front : (c : tie.After-decode) → take c.count-m.result c.decode.new.room ≡ p c.before.before.before
 front c =
     let k = c.before.before.before in
-    ap (take k.count.result) c.decode.ensures
-    ∙ front_read (p k) (start k).args.q.now k.count.result (omega (arith, k.count.ensures))
-    ∙ ap (λ (n : ℕ). take n (p k)) k.count.ensures
+    ap (take c.count-m.result) c.decode.ensures
+    ∙ front_read (p k) c.args.q.now c.count-m.result (omega (arith, c.count-m.ensures))
+    ∙ ap (λ (n : ℕ). take n (p k)) c.count-m.ensures
     ∙ take-length (p k)
 
-checked : (c : tie.After-check-pattern) (r : Check) → c.check-pattern.result ≡ r → pattern (a c.before.before.before.before.before.before.before).arities (p c.before.before.before.before.before.before.before) ≡ r
-checked c r e = ap (pattern _) (sym (front c.before.before.before.before)) ∙ sym c.check-pattern.ensures ∙ e
+checked : (c : tie.After-check_pattern) (r : Check) → c.check_pattern.result ≡ r → pattern (a c.before.before.before.before.before.before).arities (p c.before.before.before.before.before.before) ≡ r
+checked c r e =
+    let s = c.before.before.before.before.before.before in
+    ap (pattern _) (sym (front c.before.before.before)) ∙ sym c.check_pattern.ensures ∙ e
 
 -- it is accepted, and its matches are listed
-module _ (c : tie.After-enum-told) where
-  abbrev k : tie.After-count
-  k = c.before.before.before.before.before.before.before.before.before
+module _ (c : tie.In-Fine) where
+  fine : pattern (a c.before.before.before.before.before.before.before).arities (p c.before.before.before.before.before.before.before) ≡ Fine
+  fine = checked c.before Fine c.in-Fine.is
 
-  fine : pattern (a k).arities (p k) ≡ Fine
-  fine = checked c.before.before Fine c.enum_told.given.1
+  searchable : Checked (a c.before.before.before.before.before.before.before) (P c.before.before.before.before.before.before.before) (p c.before.before.before.before.before.before.before)
+  searchable = fine_checked (a c.before.before.before.before.before.before.before) (P c.before.before.before.before.before.before.before) c.requires.0 (p c.before.before.before.before.before.before.before) fine
 
-  searchable : Checked (a k) (P k) (p k)
-  searchable = fine_checked (a k) (P k) (start k).pre.0 (p k) fine
-
-lists : (c : tie.After-write-matches) → (let k = c.before.before.before.before.before.before.before.before.before.before.before.before in Lists (a k) (P k).row (p k) (start k).args.room.now (All c.write-matches.result) c.write-matches.new.1.1.1.1.0)
+lists : (c : tie.After-write_matches-count) → (Lists (a c.before.before.before.before.before.before.before.before.before) (P c.before.before.before.before.before.before.before.before.before).row (p c.before.before.before.before.before.before.before.before.before) c.args.room.now (All c.write_matches-count.result) c.write_matches-count.new.out)
 lists c =
-    let e = c.before.before.before in
-    let k = c.before.before.before.before.before.before.before.before.before.before.before.before in
-    let same = front c.before.before.before.before.before.before.before.before.before in
-    subst (λ (q : List ℕ). Lists (a k) (P k).row q (start k).args.room.now (All c.write-matches.result) c.write-matches.new.1.1.1.1.0) same
-    (c.write-matches.ensures (a k) (subst (Checked (a k) (P k)) (sym same) (searchable e)))
+    let k = c.before.before.before.before.before.before.before.before.before in
+    let same = front c.before.before.before.before.before.before in
+    subst (λ (q : List ℕ). Lists (a k) (P k).row q c.args.room.now (All c.write_matches-count.result) c.write_matches-count.new.out) same
+    (c.write_matches-count.ensures (a k) (subst (Checked (a k) (P k)) (sym same) (searchable c.before.before)))
 
-count-requires : tie.Need-count-requires
+count-requires : tie.Need-count-m-requires
 count-requires c κs = search rules
 
-write-refusal-requires : tie.Need-write-refusal-requires
+write-refusal-requires : tie.Need-write_refusal-requires
 write-refusal-requires c κs = search rules
 
-same_length : tie.Need-same-length
+same_length : tie.Need-shape_of-results-then-m-gt-PATTERN_MOST
 same_length c = search rules
 
-returns : tie.Need-returns
+returns : tie.Need-returns-then-m-gt-PATTERN_MOST
 returns c =
     let k = c.before.before.before.before.before in
-    let m = k.count.ensures in
-    let s = start k in
-    refused-answered (a k) (P k) s.pre.0 (p k) s.args.room.now s.args.i s.args.results.now (Pattern (Long (length (p k))))
-    (pattern_long (a k).arities (p k) (omega (arith, m, c.before.before.before.before.if1.true)))
+    let m = c.count-m.ensures in
+    refused-answered (a k) (P k) c.requires.0 (p k) c.args.room.now c.args.i c.args.results.now (Pattern (Long (length (p k))))
+    (pattern_long (a k).arities (p k) (omega (arith, m, c.if-m-gt-PATTERN_MOST.true)))
     _
-    (c.before.before.write-refusal.ensures ∙ ap (λ (l : ℕ). written s.args.results.now (result_places * s.args.i) (result_of (Refused (Pattern (Long l))) 0)) m)
+    (c.write_refusal.ensures ∙ ap (λ (l : ℕ). written c.args.results.now (result_places * c.args.i) (result_of (Refused (Pattern (Long l))) 0)) m)
 
 decode-requires : tie.Need-decode-requires
 decode-requires c κs = search rules
 
-slice-reshare-prefix-check-pattern : tie.Need-slice-reshare-prefix-check-pattern
+slice-reshare-prefix-check-pattern : tie.Need-slice_bounds-check_pattern-end
 slice-reshare-prefix-check-pattern c = search rules
 
-slice-aggregate-check-pattern : tie.Need-slice-aggregate-check-pattern
-slice-aggregate-check-pattern c = sym (length-take-le _ _ (slice-reshare-prefix-check-pattern c.before))
+slice-aggregate-check-pattern : tie.Need-slice_bounds-check_pattern-end-2
+slice-aggregate-check-pattern c = sym (length-take-le _ _ (slice-reshare-prefix-check-pattern c))
 
-check-pattern-requires : tie.Need-check-pattern-requires
+check-pattern-requires : tie.Need-check_pattern-requires
 check-pattern-requires c κs = search rules
 
-enum-known-r : tie.Need-enum-known-r
+enum-known-r : tie.Need-enum_known-r
 enum-known-r c = search rules
 
-write-refusal-requires-2 : tie.Need-write-refusal-requires-2
+write-refusal-requires-2 : tie.Need-write_refusal-requires-in-Refused
 write-refusal-requires-2 c κs =
-    let k = c.before.before.before.before.before.before.before.before.before.before.before in
-    let small = pattern-small (a k).arities (p k) _ (checked c.before.before.before.before _ c.before.before.r.given.1) in
-    (omega (arith, small.0), omega (arith, small.1, (start k).requires.1), (start k).requires.2)
+    let k = c.before.before.before.before.before.before.before.before in
+    let small = pattern-small (a k).arities (p k) _ (checked c.before.before _ c.in-Refused.is) in
+    (omega (arith, small.0), omega (arith, small.1, c.requires.1), c.requires.2)
 
-enum_told : tie.Need-enum-told
+enum_told : tie.Need-enum_told-1
 enum_told c = search rules
 
-slice-reshare-prefix-write-matches : tie.Need-slice-reshare-prefix-write-matches
+slice-reshare-prefix-write-matches : tie.Need-slice_bounds-write_matches-end
 slice-reshare-prefix-write-matches c = search rules
 
-slice-aggregate-write-matches : tie.Need-slice-aggregate-write-matches
-slice-aggregate-write-matches c = sym (length-take-le _ _ (slice-reshare-prefix-write-matches c.before))
+slice-aggregate-write-matches : tie.Need-slice_bounds-write_matches-end-in-Fine
+slice-aggregate-write-matches c = sym (length-take-le _ _ (slice-reshare-prefix-write-matches c))
 
-write-matches-requires : tie.Need-write-matches-requires
+write-matches-requires : tie.Need-write_matches-count-requires
 write-matches-requires c κs =
-    let e = c.before.before in
-    ((a (k e), subst (Checked (a (k e)) (P (k e))) (sym (front c.before.before.before.before.before.before.before.before)) (searchable e)), (start (k e)).pre.4)
+    let e = c.before.before.before.before.before.before.before.before in
+    ((a e, subst (Checked (a e) (P e)) (sym (front c.before.before.before.before.before)) (searchable c.before)), c.requires.4)
 
-write-result-requires : tie.Need-write-result-requires
+write-result-requires : tie.Need-write_result-requires
 write-result-requires c κs =
-    let e = c.before.before.before.before.before.before in
-    let b = k e in
-    let s = start b in
-    let n = told_count (a b) (P b) s.pre.0 (p b) (fine e) _ _ _ (lists c.before.before.before) _ (inl refl) in
-    (omega arith, omega arith, omega (arith, n, alone_most (a b) (P b) s.pre.0 (p b), row_most_lem (a b) (P b) s.pre.0), s.pre.2)
+    let e = c.before.before.before.before.before.before.before.before.before.before.before.before in
+    let n = told_count (a e) (P e) c.requires.0 (p e) (fine c.before.before.before.before.before) _ _ _ (lists c.before.before.before) _ (inl refl) in
+    (omega arith, omega arith, omega (arith, n, alone_most (a e) (P e) c.requires.0 (p e), row_most_lem (a e) (P e) c.requires.0), c.requires.2)
 
-same-length-2 : tie.Need-same-length-2
+same-length-2 : tie.Need-shape_of-q-in-Refused
 same-length-2 c = search rules
 
-same-length-3 : tie.Need-same-length-3
+same-length-3 : tie.Need-shape_of-results-in-Refused
 same-length-3 c = search rules
 
-returns-2 : tie.Need-returns-2
+returns-2 : tie.Need-returns-in-Refused
 returns-2 c =
-    let k = c.before.before.before.before.before.before.before.before.before.before.before.before.before.before in
-    let s = start k in
-    refused-answered (a k) (P k) s.pre.0 (p k) s.args.room.now s.args.i s.args.results.now _ (checked c.before.before.before.before.before.before.before _ c.before.before.before.before.before.r.given.1) _ c.before.before.write-refusal2.ensures
+    let k = c.before.before.before.before.before.before.before.before.before.before.before in
+    refused-answered (a k) (P k) c.requires.0 (p k) c.args.room.now c.args.i c.args.results.now _ (checked c.before.before.before.before.before _ c.in-Refused.is) _ c.write_refusal-in-Refused.ensures
 
-same-length-4 : tie.Need-same-length-4
+same-length-4 : tie.Need-shape_of-q-in-Fine
 same-length-4 c = search rules
 
-same-length-5 : tie.Need-same-length-5
+same-length-5 : tie.Need-shape_of-room
 same-length-5 c = search rules
 
-same-length-6 : tie.Need-same-length-6
+same-length-6 : tie.Need-shape_of-results-in-Fine
 same-length-6 c = search rules
 
-returns-3 : tie.Need-returns-3
+returns-3 : tie.Need-returns-in-Fine
 returns-3 c =
-    let e = c.before.before.before.before.before.before.before.before.before in
-    let b = k e in
-    let s = start b in
-    listed_answered (a b) (P b) s.pre.0 (p b) (fine e) _ _ _ (lists c.before.before.before.before.before.before) _ s.args.i s.args.results.now _ (inl refl) c.before.before.write-result.ensures
+    let e = c.before.before.before.before.before.before.before.before.before.before.before.before.before.before.before in
+    listed_answered (a e) (P e) c.requires.0 (p e) (fine c.before.before.before.before.before.before.before.before) _ _ _ (lists c.before.before.before.before.before.before) _ c.args.i c.args.results.now _ (inl refl) c.write_result.ensures
 
-pub answer-pattern-spec : {M : Type 1} → statement M
-answer-pattern-spec =
+pub answer_pattern_spec : {M : Type 1} → statement M
+answer_pattern_spec =
     tie.close
     (tie.spec
     count-requires

@@ -46,7 +46,7 @@ module _ (s : tie.Start) where
   rs = threes a P qs ls (numbers out) (numbers res)
 
   able : Answerable a P qs ls (numbers res)
-  able = sheet_answerable a P qs ls (numbers out) (numbers res) s.pre.0
+  able = sheet_answerable a P qs ls (numbers out) (numbers res) s.requires.0
 
   -- the local list has room for the results
   able-kept : (kept : List ℕ) → length kept ≡ 192 → Answerable a P qs ls kept
@@ -59,138 +59,142 @@ module _ (s : tie.Start) where
   ps-few = laid-few a P able.given qs ls row_most (length ls) (row_most_lem a P able.given)
 
 -- the bytes of the outputs
-module _ (c : tie.After-slice-known4) where
+module _ (c : tie.After-slice_known-4-1) where
   small : Bytes (out c.before.before.before.before.before.before.before.before.before.before)
-  small i = (c.before.before.before.slice-known.given i).fits
+  small i = (c.slice_known-1.given i).fits
 
   small-results : Bytes (res c.before.before.before.before.before.before.before.before.before.before)
-  small-results i = (c.before.before.slice-known2.given i).fits
+  small-results i = (c.slice_known-2-1.given i).fits
 
-mul-n : tie.Need-overflow-mul-n
+mul-n : tie.Need-overflow_mul-n
 mul-n c = search rules
 
-slice-aggregate-answer-patterns : tie.Need-slice-aggregate-answer-patterns
+slice-aggregate-answer-patterns : tie.Need-slice_bounds-answer_patterns-end
 slice-aggregate-answer-patterns c = search rules
 
-answer-patterns-requires : tie.Need-answer-patterns-requires
-answer-patterns-requires c κs = let s = c.before.before.before.before.before.before.before.before.before.before.before.before.before in (able-kept s _ (search rules), s.requires.1)
+answer-patterns-requires : tie.Need-answer_patterns-count-requires
+answer-patterns-requires c κs = (able-kept c.before.before.before.before.before.before.before.before.before.before.before.before.before _ (search rules), c.requires.1)
 
 count-requires : tie.Need-count-requires
 count-requires c κs = search rules
 
-refusal-of-requires : tie.Need-refusal-of-requires
+refusal-of-requires : tie.Need-refusal_of-requires
 refusal-of-requires c κs = search rules
 
-same_length : tie.Need-same-length
+same_length : tie.Need-shape_of-positions-then-count
 same_length c = search rules
 
-same-length-2 : tie.Need-same-length-2
+same-length-2 : tie.Need-shape_of-room-then-count
 same-length-2 c = search rules
 
-same-length-3 : tie.Need-same-length-3
+same-length-3 : tie.Need-shape_of-gathered-then-count
 same-length-3 c = search rules
 
-returns : tie.Need-returns
+returns : tie.Need-returns-then-count
 returns c =
-    let s = c.before.before.before.before.before.before.before.before.before.before.before.before.before.before.before.before.before.before.before.before.before.before.before in
-    let m = c.before.before.before.before.before.before.before.before.before.answer-patterns.ensures in
-    sheet-bytes-short (a s) (P s) (qs s) (ls s) (out s) (res s) (small c.before.before.before.before.before.before.before.before.before.before.before.before.before) (small-results c.before.before.before.before.before.before.before.before.before.before.before.before.before) s.requires.0 _ m.count
-    (omega (arith, c.before.if1.true, c.before.before.count.ensures)) _ c.refusal-of.ensures
+    let i = c.before.before.before.before.before.before.before.before.before.before.before.before in
+    let s = c.before.before.before.before.before.before.before.before.before.before.before.before.before.before.before.before.before.before.before.before.before.before in
+    let m = c.answer_patterns-count.ensures in
+    sheet-bytes-short (a s) (P s) (qs s) (ls s) (out s) (res s) (small i) (small-results i) c.requires.0 _ m.count
+    (omega (arith, c.if-count.true, c.count.ensures)) _ c.refusal_of.ensures
 
 count-requires-2 : tie.Need-count-requires-2
 count-requires-2 c κs = search rules
 
-slice-aggregate-answer-patterns-2 : tie.Need-slice-aggregate-answer-patterns-2
+slice-aggregate-answer-patterns-2 : tie.Need-slice_bounds-answer_patterns-end-then-count-2
 slice-aggregate-answer-patterns-2 c = search rules
 
-answer-patterns-requires-2 : tie.Need-answer-patterns-requires-2
+answer-patterns-requires-2 : tie.Need-answer_patterns-requires
 answer-patterns-requires-2 c κs =
-    let s = c.before.before.before.before.before.before.before.before.before.before.before.before.before.before.before.before.before.before.before.before.before.before.before.before.before.before.before.before in
-    let m = c.before.before.before.before.before.before.before.before.before.before.before.before.before.before.answer-patterns in
-    (able-kept s _ m.auto.1.1.1.1.1.1.1.1.0, omega (arith, s.requires.1, m.auto.1.1.1.1.1.1.0))
+    let m = c.answer_patterns-count in
+    (able-kept c.before.before.before.before.before.before.before.before.before.before.before.before.before.before.before.before.before.before.before.before.before.before.before.before.before.before _ m.auto.results, omega (arith, c.requires.1, m.auto.room))
 
-array-share-prefix-kept : tie.Need-array-share-prefix-kept
-array-share-prefix-kept c = omega (arith, (able c.before.before.before.before.before.before.before.before.before.before.before.before.before.before.before.before.before.before.before.before.before.before.before.before.before.before.before.before.before.before.before.before.before.before).few, c.before.before.before.before.before.before.before.before.before.before.before.before.before.before.before.before.before.before.before.before.answer-patterns.auto.1.1.1.1.1.1.1.1.0, c.before.before.before.before.before.answer-patterns2.auto.1.1.1.1.1.1.1.1.0)
+array-share-prefix-kept : tie.Need-slice_bounds-kept-end
+array-share-prefix-kept c = omega (arith, (able c.before.before.before.before.before.before.before.before.before.before.before.before.before.before.before.before.before.before.before.before.before.before.before.before.before.before.before.before.before.before.before.before).few, c.answer_patterns-count.auto.results, c.answer_patterns.auto.results)
 
-slice-aggregate-write-results : tie.Need-slice-aggregate-write-results
+slice-aggregate-write-results : tie.Need-slice_bounds-write_results-end
 slice-aggregate-write-results c = sym (length-take-le _ _ (array-share-prefix-kept c.before))
 
-write-results-requires : tie.Need-write-results-requires
-write-results-requires c κs = let s = c.before.before.before.before.before.before.before.before.before.before.before.before.before.before.before.before.before.before.before.before.before.before.before.before.before.before.before.before.before.before.before.before.before.before.before.before in omega (arith, slice-aggregate-write-results c.before, (able s).room)
+write-results-requires : tie.Need-write_results-requires
+write-results-requires c κs = omega (arith, slice-aggregate-write-results c.before, (able c.before.before.before.before.before.before.before.before.before.before.before.before.before.before.before.before.before.before.before.before.before.before.before.before.before.before.before.before.before.before.before.before.before.before).room)
 
-same-length-4 : tie.Need-same-length-4
+same-length-4 : tie.Need-shape_of-positions-then-count-2
 same-length-4 c = search rules
 
-same-length-5 : tie.Need-same-length-5
+same-length-5 : tie.Need-shape_of-results-then-count-2
 same-length-5 c = search rules
 
-same-length-6 : tie.Need-same-length-6
+same-length-6 : tie.Need-shape_of-room-then-count-2
 same-length-6 c = search rules
 
-same-length-7 : tie.Need-same-length-7
+same-length-7 : tie.Need-shape_of-gathered-then-count-2
 same-length-7 c = search rules
 
-returns-2 : tie.Need-returns-2
+returns-2 : tie.Need-returns-then-count-2
 returns-2 c =
-    let s = c.before.before.before.before.before.before.before.before.before.before.before.before.before.before.before.before.before.before.before.before.before.before.before.before.before.before.before.before.before.before.before.before.before.before.before.before.before.before.before in
-    let m = c.before.before.before.before.before.before.before.before.before.before.before.before.before.before.before.before.before.before.before.before.before.before.before.before.before.answer-patterns.ensures in
-    let again = c.before.before.before.before.before.before.before.before.before.before.answer-patterns2.ensures in
-    let w = c.before.before.write-results.ensures in
-    let room : c.before.before.before.before.before.before.before.before.before.before.before.before.before.before.before.before.before.before.before.before.before.before.before.before.before.answer-patterns.result ≤ length (numbers (out s)) = omega (arith, c.before.before.before.before.before.before.before.before.before.before.before.before.before.before.before.before.before.if1.false, c.before.before.before.before.before.before.before.before.before.before.before.before.before.before.before.before.before.before.count.ensures) in
-    sheet-bytes_all (a s) (P s) (qs s) (ls s) (out s) (res s) (small c.before.before.before.before.before.before.before.before.before.before.before.before.before.before.before.before.before.before.before.before.before.before.before.before.before.before.before.before.before) (small-results c.before.before.before.before.before.before.before.before.before.before.before.before.before.before.before.before.before.before.before.before.before.before.before.before.before.before.before.before.before) s.requires.0 _ m.count
+    let i = c.before.before.before.before.before.before.before.before.before.before.before.before.before.before.before.before.before.before.before.before.before.before.before.before.before.before.before in
+    let s = c.before.before.before.before.before.before.before.before.before.before.before.before.before.before.before.before.before.before.before.before.before.before.before.before.before.before.before.before.before.before.before.before.before.before.before.before.before in
+    let m = c.answer_patterns-count.ensures in
+    let again = c.answer_patterns.ensures in
+    let w = c.write_results.ensures in
+    let room : c.answer_patterns-count.result ≤ length (numbers (out s)) = omega (arith, c.if-count.false, c.count.ensures) in
+    sheet-bytes_all (a s) (P s) (qs s) (ls s) (out s) (res s) (small i) (small-results i) c.requires.0 _ m.count
     room _ w.0 _ _ (again.positions.front (omega (arith, m.count, room)))
     (w.1 ∙ ap (λ (l : List ℕ). written (res s) 0 (bytes_of l)) (front_read _ _ (rs s) _ again.results (sym (rs-length s))))
 
-mul-copy : tie.Need-overflow-mul-copy
-mul-copy c = let s = c.before.before.before.before.before.before.before.before.before.before.before.before.before.before.before.before.before.before.before.before.before.before.before.before.before in omega (arith, c.before.before.before.before.before.before.before.before.before.before.before.answer-patterns.ensures.count, ps-few s, (able s).few)
+mul-copy : tie.Need-overflow_mul-count
+mul-copy c =
+    let s = c.before.before.before.before.before.before.before.before.before.before.before.before.before.before.before.before.before.before.before.before.before.before.before in
+    omega (arith, c.answer_patterns-count.ensures.count, ps-few s, (able s).few)
 
-slice-reshare-prefix-copy : tie.Need-slice-reshare-prefix-copy
-slice-reshare-prefix-copy c = omega (arith, c.if2.false, c.before.count2.ensures, numbers-length c.before.before.before.before.before.before.before.before.before.before.before.answer-patterns.new.1.1.1.1.1.1.1.0)
+slice-reshare-prefix-copy : tie.Need-slice_bounds-copy-end
+slice-reshare-prefix-copy c = omega (arith, c.if-count-2.false, c.count-2.ensures, numbers-length c.answer_patterns-count.new.out)
 
-slice-aggregate-copy : tie.Need-slice-aggregate-copy
-slice-aggregate-copy c = sym (length-take-le _ _ (slice-reshare-prefix-copy c.before))
+slice-aggregate-copy : tie.Need-slice_bounds-copy-end-2
+slice-aggregate-copy c = sym (length-take-le _ _ (slice-reshare-prefix-copy c))
 
 copy-requires : tie.Need-copy-requires
-copy-requires c κs = omega (arith, slice-aggregate-copy c.before, c.before.before.before.before.before.if1.false, c.before.before.before.before.before.before.count.ensures, numbers-length (out c.before.before.before.before.before.before.before.before.before.before.before.before.before.before.before.before.before.before.before.before.before.before.before.before.before.before.before))
+copy-requires c κs = omega (arith, slice-aggregate-copy c.before, c.if-count.false, c.count.ensures, numbers-length (out c.before.before.before.before.before.before.before.before.before.before.before.before.before.before.before.before.before.before.before.before.before.before.before.before))
 
-array-share-prefix-kept-2 : tie.Need-array-share-prefix-kept-2
-array-share-prefix-kept-2 c = omega (arith, (able c.before.before.before.before.before.before.before.before.before.before.before.before.before.before.before.before.before.before.before.before.before.before.before.before.before.before.before.before.before.before).few, c.before.before.before.before.before.before.before.before.before.before.before.before.before.before.before.before.answer-patterns.auto.1.1.1.1.1.1.1.1.0)
+array-share-prefix-kept-2 : tie.Need-slice_bounds-kept-end-2
+array-share-prefix-kept-2 c = omega (arith, (able c.before.before.before.before.before.before.before.before.before.before.before.before.before.before.before.before.before.before.before.before.before.before.before.before.before.before.before).few, c.answer_patterns-count.auto.results)
 
-slice-aggregate-write-results-2 : tie.Need-slice-aggregate-write-results-2
+slice-aggregate-write-results-2 : tie.Need-slice_bounds-write_results-end-2
 slice-aggregate-write-results-2 c = sym (length-take-le _ _ (array-share-prefix-kept-2 c.before))
 
-write-results-requires-2 : tie.Need-write-results-requires-2
-write-results-requires-2 c κs = let s = c.before.before.before.before.before.before.before.before.before.before.before.before.before.before.before.before.before.before.before.before.before.before.before.before.before.before.before.before.before.before.before.before in omega (arith, slice-aggregate-write-results-2 c.before, (able s).room)
+write-results-requires-2 : tie.Need-write_results-requires-2
+write-results-requires-2 c κs = omega (arith, slice-aggregate-write-results-2 c.before, (able c.before.before.before.before.before.before.before.before.before.before.before.before.before.before.before.before.before.before.before.before.before.before.before.before.before.before.before.before.before).room)
 
-same-length-8 : tie.Need-same-length-8
+same-length-8 : tie.Need-shape_of-positions
 same-length-8 c = search rules
 
-same-length-9 : tie.Need-same-length-9
+same-length-9 : tie.Need-shape_of-results
 same-length-9 c = search rules
 
-same-length-10 : tie.Need-same-length-10
+same-length-10 : tie.Need-shape_of-room
 same-length-10 c = search rules
 
-same-length-11 : tie.Need-same-length-11
+same-length-11 : tie.Need-shape_of-gathered
 same-length-11 c = search rules
 
-returns-3 : tie.Need-returns-3
+returns-3 : tie.Need-returns
 returns-3 c =
-    let s = c.before.before.before.before.before.before.before.before.before.before.before.before.before.before.before.before.before.before.before.before.before.before.before.before.before.before.before.before.before.before.before.before.before.before.before in
-    let first = c.before.before.before.before.before.before.before.before.before.before.before.before.before.before.before.before.before.before.before.before.before.answer-patterns in
+    let i = c.before.before.before.before.before.before.before.before.before.before.before.before.before.before.before.before.before.before.before.before.before.before in
+    let s = c.before.before.before.before.before.before.before.before.before.before.before.before.before.before.before.before.before.before.before.before.before.before.before.before.before.before.before.before.before.before.before.before in
+    let first = c.answer_patterns-count in
     let m = first.ensures in
-    let w = c.before.before.write-results2.ensures in
-    let room : first.result ≤ length (numbers (out s)) = omega (arith, c.before.before.before.before.before.before.before.before.before.before.before.before.before.if1.false, c.before.before.before.before.before.before.before.before.before.before.before.before.before.before.count.ensures) in
-    let same : length (numbers first.new.1.1.1.1.1.1.1.0) ≡ length (numbers s.args.gathered.now) =
-    omega (arith, numbers-length first.new.1.1.1.1.1.1.1.0, numbers-length s.args.gathered.now, m.positions.long) in
-    let gathered = m.positions.front (omega (arith, m.count, c.before.before.before.before.before.before.before.before.before.before.if2.false, c.before.before.before.before.before.before.before.before.before.before.before.count2.ensures)) in
+    let w = c.write_results-2.ensures in
+    let room : first.result ≤ length (numbers (out s)) = omega (arith, c.if-count.false, c.count.ensures) in
+    let same : length (numbers first.new.out) ≡ length (numbers c.args.gathered.now) =
+    omega (arith, numbers-length first.new.out, numbers-length c.args.gathered.now, m.positions.long) in
+    let gathered = m.positions.front (omega (arith, m.count, c.if-count-2.false, c.count-2.ensures)) in
     let bytes : 2 * first.result ≡ length (bytes_of (ps s)) = omega (arith, m.count, bytes_of-length (ps s)) in
-    sheet-bytes_all (a s) (P s) (qs s) (ls s) (out s) (res s) (small c.before.before.before.before.before.before.before.before.before.before.before.before.before.before.before.before.before.before.before.before.before.before.before.before.before) (small-results c.before.before.before.before.before.before.before.before.before.before.before.before.before.before.before.before.before.before.before.before.before.before.before.before.before) s.requires.0 _ m.count
-    room _ w.0 _ _ (c.before.before.before.before.before.before.before.copy.ensures ∙ ap (written (out s) 0) (front_read _ _ (bytes_of (ps s)) _ gathered bytes))
+    sheet-bytes_all (a s) (P s) (qs s) (ls s) (out s) (res s) (small i) (small-results i) c.requires.0 _ m.count
+    room _ w.0 _ _ (c.copy.ensures ∙ ap (written (out s) 0) (front_read _ _ (bytes_of (ps s)) _ gathered bytes))
     (w.1 ∙ ap (λ (l : List ℕ). written (res s) 0 (bytes_of l)) (front_read _ _ (rs s) _ m.results (sym (rs-length s))))
 
-pub answer-sheet-spec : {M : Type 1} → statement M
-answer-sheet-spec =
+pub answer_sheet_spec : {M : Type 1} → statement M
+answer_sheet_spec =
     tie.close
     (tie.spec
     mul-n

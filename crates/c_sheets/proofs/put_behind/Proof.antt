@@ -6,29 +6,29 @@ use borrow.Author.Rules.{rules}
 use Rattle.c_sheets.proofs.put_behind.Statement.{statement}
 use Rattle.c_sheets.proofs.put_behind.Tie as tie
 
-add-if1 : tie.Need-overflow-add-if1
+add-if1 : tie.Need-overflow_add-before
 add-if1 c = search rules
 
 count-requires : tie.Need-count-requires
 count-requires c κs = search rules
 
-encode-behind-requires : tie.Need-encode-behind-requires
+encode-behind-requires : tie.Need-encode_behind-requires
 encode-behind-requires c κs = search rules
 
-same_length : tie.Need-same-length
+same_length : tie.Need-shape_of-out-then-before-list
 same_length c = search rules
 
-returns : tie.Need-returns
+returns : tie.Need-returns-then-before-list
 returns c = search rules
 
-same-length-2 : tie.Need-same-length-2
+same-length-2 : tie.Need-shape_of-out-else-before-list
 same-length-2 c = search rules
 
-returns-2 : tie.Need-returns-2
-returns-2 c = record { long = refl; behind = λ h. absurd (omega (arith, h, c.before.count.ensures, c.if1.false)) }
+returns-2 : tie.Need-returns-else-before-list
+returns-2 c = record { long = refl; behind = λ h. absurd (omega (arith, h, c.count.ensures, c.if-before-list.false)) }
 
-pub put-behind-spec : {M : Type 1} → statement M
-put-behind-spec =
+pub put_behind_spec : {M : Type 1} → statement M
+put_behind_spec =
     tie.close
     (tie.spec
     add-if1

@@ -23,136 +23,129 @@ use borrow.Author.Rules.{rules}
 use Rattle.c_sheets.proofs.sheet_given.Statement.{statement}
 use Rattle.c_sheets.proofs.sheet_given.Tie as tie
 
-module _ (c : tie.After-count) where
-  abbrev start : tie.Start
-  start = c.before.before.before.before.before.before.before.before.before.before.before
-
+module _ (c : tie.After-count-k) where
   abbrev a : Alphabet
-  a = alphabet_of start.args.arities.now
+  a = alphabet_of c.args.arities.now
 
   abbrev P : Programme
-  P = programme start.args.row.now start.args.table.now start.args.classes.now
+  P = programme c.args.row.now c.args.table.now c.args.classes.now
 
   abbrev qs : List ℕ
-  qs = numbers start.args.patterns.now
+  qs = numbers c.args.patterns.now
 
   abbrev ls : List ℕ
-  ls = numbers start.args.lengths.now
+  ls = numbers c.args.lengths.now
 
-  small : Bytes start.args.positions.now
-  small i = (c.before.before.before.before.slice-known.given i).fits
+  small : Bytes c.args.positions.now
+  small i = (c.slice_known-1.given i).fits
 
-  small-results : Bytes start.args.results.now
-  small-results i = (c.before.before.before.slice-known2.given i).fits
+  small-results : Bytes c.args.results.now
+  small-results i = (c.slice_known-2-1.given i).fits
 
 -- the copy of the lengths
-front : (c : tie.After-decode) → take c.before.before.before.count.result c.decode.new.1.1.0 ≡ ls c.before.before.before
+front : (c : tie.After-decode) → take c.count-k.result c.decode.new.room ≡ ls c.before.before.before
 front c =
-    let k = c.before.before.before in
-    ap (take k.count.result) c.decode.ensures
-    ∙ front_read (ls k) _ k.count.result (omega (arith, k.count.ensures))
-    ∙ ap (λ (n : ℕ). take n (ls k)) k.count.ensures
-    ∙ take-length (ls k)
+    let s = c.before.before.before in
+    ap (take c.count-k.result) c.decode.ensures
+    ∙ front_read (ls s) _ c.count-k.result (omega (arith, c.count-k.ensures))
+    ∙ ap (λ (n : ℕ). take n (ls s)) c.count-k.ensures
+    ∙ take-length (ls s)
 
 -- alphabet, row, table and classes are right, so the lengths decide
-checked : (c : tie.After-check-results) (r : Check) → c.check-results.result ≡ r
-    → results_check (a c.before.before.before.before.before.before.before.before.before) (P c.before.before.before.before.before.before.before.before.before) (qs c.before.before.before.before.before.before.before.before.before) (ls c.before.before.before.before.before.before.before.before.before) (length (numbers (start c.before.before.before.before.before.before.before.before.before).args.results.now)) ≡ r
+checked : (c : tie.After-check_results) (r : Check) → c.check_results.result ≡ r
+    → results_check (a c.before.before.before.before.before.before.before.before) (P c.before.before.before.before.before.before.before.before) (qs c.before.before.before.before.before.before.before.before) (ls c.before.before.before.before.before.before.before.before) (length (numbers c.args.results.now)) ≡ r
 unfolding results_check
 checked c r e =
-    let k = c.before.before.before.before.before.before.before.before.before in
-    ap (λ (g : Check). g then sheet (ls k) (length (qs k)) then output (result_places * length (ls k)) (length (numbers (start k).args.results.now))) (start k).requires.0
-    ∙ ap (λ (l : List ℕ). sheet l (length (qs k)) then output (result_places * length l) (length (numbers (start k).args.results.now))) (sym (front c.before.before.before.before.before.before))
-    ∙ ap₂ (λ (m n : ℕ). sheet (take k.count.result c.before.before.before.before.before.before.decode.new.1.1.0) m then output (result_places * length (take k.count.result c.before.before.before.before.before.before.decode.new.1.1.0)) n) (sym c.before.before.before.count2.ensures) (sym c.before.count3.ensures)
-    ∙ sym c.check-results.ensures
+    let s = c.before.before.before.before.before.before.before.before in
+    ap (λ (g : Check). g then sheet (ls s) (length (qs s)) then output (result_places * length (ls s)) (length (numbers c.args.results.now))) c.requires.0
+    ∙ ap (λ (l : List ℕ). sheet l (length (qs s)) then output (result_places * length l) (length (numbers c.args.results.now))) (sym (front c.before.before.before.before.before))
+    ∙ ap₂ (λ (m n : ℕ). sheet (take c.count-k.result c.decode.new.room) m then output (result_places * length (take c.count-k.result c.decode.new.room)) n) (sym c.count.ensures) (sym c.count-2.ensures)
+    ∙ sym c.check_results.ensures
     ∙ e
 
-count-requires : tie.Need-count-requires
+count-requires : tie.Need-count-k-requires
 count-requires c κs = search rules
 
-refusal-of-requires : tie.Need-refusal-of-requires
+refusal-of-requires : tie.Need-refusal_of-requires
 refusal-of-requires c κs = search rules
 
-returns : tie.Need-returns
+returns : tie.Need-returns-then-k-gt-SHEET_MOST
 returns c =
-    let k = c.before.before in
-    let s = start k in
-    let m = k.count.ensures in
-    sheet-bytes-refused (a k) (P k) (qs k) (ls k) s.args.positions.now s.args.results.now (small k) (small-results k) _ (SheetSize (length (ls k)))
-    (lengths_many (a k) (P k) (qs k) (ls k) _ s.pre.0 (omega (arith, m, c.before.if1.true)))
-    (c.refusal-of.ensures ∙ ap (λ (n : ℕ). refused (SheetSize n)) m)
+    let s = c.before.before in
+    let m = c.count-k.ensures in
+    sheet-bytes-refused (a s) (P s) (qs s) (ls s) c.args.positions.now c.args.results.now (small s) (small-results s) _ (SheetSize (length (ls s)))
+    (lengths_many (a s) (P s) (qs s) (ls s) _ c.requires.0 (omega (arith, m, c.if-k-gt-SHEET_MOST.true)))
+    (c.refusal_of.ensures ∙ ap (λ (n : ℕ). refused (SheetSize n)) m)
 
-slice-aggregate-decode : tie.Need-slice-aggregate-decode
+slice-aggregate-decode : tie.Need-slice_bounds-decode-end
 slice-aggregate-decode c = search rules
 
 decode-requires : tie.Need-decode-requires
 decode-requires c κs = search rules
 
-array-share-prefix-l : tie.Need-array-share-prefix-l
+array-share-prefix-l : tie.Need-slice_bounds-l-end
 array-share-prefix-l c = search rules
 
-slice-aggregate-check-results : tie.Need-slice-aggregate-check-results
+slice-aggregate-check-results : tie.Need-slice_bounds-check_results-end
 slice-aggregate-check-results c = sym (length-take-le _ _ (array-share-prefix-l c.before))
 
-count-requires-2 : tie.Need-count-requires-2
+count-requires-2 : tie.Need-count-requires
 count-requires-2 c κs = search rules
 
-count-requires-3 : tie.Need-count-requires-3
+count-requires-3 : tie.Need-count-requires-2
 count-requires-3 c κs = search rules
 
-check-results-requires : tie.Need-check-results-requires
+check-results-requires : tie.Need-check_results-requires
 check-results-requires c κs = search rules
 
-enum-known-r : tie.Need-enum-known-r
+enum-known-r : tie.Need-enum_known-r
 enum-known-r c = search rules
 
-refusal-of-requires-2 : tie.Need-refusal-of-requires-2
+refusal-of-requires-2 : tie.Need-refusal_of-requires-in-Refused
 refusal-of-requires-2 c κs = search rules
 
-enum_told : tie.Need-enum-told
+enum_told : tie.Need-enum_told-1
 enum_told c = search rules
 
-array-share-prefix-l-2 : tie.Need-array-share-prefix-l-2
+array-share-prefix-l-2 : tie.Need-slice_bounds-l-end-in-Fine
 array-share-prefix-l-2 c = search rules
 
-slice-aggregate-answer-sheet : tie.Need-slice-aggregate-answer-sheet
+slice-aggregate-answer-sheet : tie.Need-slice_bounds-answer_sheet-end
 slice-aggregate-answer-sheet c = sym (length-take-le _ _ (array-share-prefix-l-2 c.before))
 
-answer-sheet-requires : tie.Need-answer-sheet-requires
+answer-sheet-requires : tie.Need-answer_sheet-requires
 answer-sheet-requires c κs =
-    let k = c.before.before.before.before.before.before.before.before.before.before.before.before.before.before.before.before in
-    let s = start k in
-    (subst (λ (l : List ℕ). results_check (a k) (P k) (qs k) l (length (numbers s.args.results.now)) ≡ Fine) (sym (front c.before.before.before.before.before.before.before.before.before.before.before.before.before)) (checked c.before.before.before.before.before.before.before Fine c.before.before.before.before.before.enum_told.given.1), s.pre.1)
+    let k = c.before.before.before.before.before.before.before.before.before.before.before.before.before.before in
+    (subst (λ (l : List ℕ). results_check (a k) (P k) (qs k) l (length (numbers c.args.results.now)) ≡ Fine) (sym (front c.before.before.before.before.before.before.before.before.before.before.before)) (checked c.before.before.before.before.before.before Fine c.in-Fine.is), c.requires.1)
 
-same_length : tie.Need-same-length
+same_length : tie.Need-shape_of-results-in-Refused
 same_length c = search rules
 
-returns-2 : tie.Need-returns-2
+returns-2 : tie.Need-returns-in-Refused
 returns-2 c =
-    let k = c.before.before.before.before.before.before.before.before.before.before.before.before.before in
-    let s = start k in
-    sheet-bytes-refused (a k) (P k) (qs k) (ls k) s.args.positions.now s.args.results.now (small k) (small-results k) _ _ (checked c.before.before.before.before _ c.before.before.r.given.1) c.refusal-of2.ensures
+    let k = c.before.before.before.before.before.before.before.before.before.before in
+    sheet-bytes-refused (a k) (P k) (qs k) (ls k) c.args.positions.now c.args.results.now (small k) (small-results k) _ _ (checked c.before.before _ c.in-Refused.is) c.refusal_of-in-Refused.ensures
 
-same-length-2 : tie.Need-same-length-2
+same-length-2 : tie.Need-shape_of-positions
 same-length-2 c = search rules
 
-same-length-3 : tie.Need-same-length-3
+same-length-3 : tie.Need-shape_of-results-in-Fine
 same-length-3 c = search rules
 
-same-length-4 : tie.Need-same-length-4
+same-length-4 : tie.Need-shape_of-room
 same-length-4 c = search rules
 
-same-length-5 : tie.Need-same-length-5
+same-length-5 : tie.Need-shape_of-gathered
 same-length-5 c = search rules
 
-returns-3 : tie.Need-returns-3
+returns-3 : tie.Need-returns-in-Fine
 returns-3 c =
-    let k = c.before.before.before.before.before.before.before.before.before.before.before.before.before.before.before.before.before.before.before.before.before.before.before.before.before in
-    let s = start k in
-    let m = c.before.before.before.before.before.before.before.before.answer-sheet in
-    subst (λ (l : List ℕ). SheetBytes (a k) (P k) (qs k) l s.args.positions.now s.args.results.now m.result m.new.1.1.1.1.1.1.0 m.new.1.1.1.1.1.1.1.0) (front c.before.before.before.before.before.before.before.before.before.before.before.before.before.before.before.before.before.before.before.before.before.before) m.ensures
+    let k = c.before.before.before.before.before.before.before.before.before.before.before.before.before.before.before.before.before.before.before.before.before.before.before in
+    let m = c.answer_sheet in
+    subst (λ (l : List ℕ). SheetBytes (a k) (P k) (qs k) l c.args.positions.now c.args.results.now m.result m.new.positions m.new.results) (front c.before.before.before.before.before.before.before.before.before.before.before.before.before.before.before.before.before.before.before.before) m.ensures
 
-pub sheet-given-spec : {M : Type 1} → statement M
-sheet-given-spec =
+pub sheet_given_spec : {M : Type 1} → statement M
+sheet_given_spec =
     tie.close
     (tie.spec
     count-requires
