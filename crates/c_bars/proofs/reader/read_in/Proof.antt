@@ -21,127 +21,123 @@ use Rattle.c_bars.proofs.reader.read_in.Statement.{statement}
 use Rattle.c_bars.proofs.reader.read_in.Tie as tie
 
 -- what the call is lent
-module _ (c : tie.After-count) where
-  abbrev start : tie.Start
-  start = c.before.before.before.before.before.before.before.before
-
+module _ (c : tie.After-count-k) where
   abbrev A : List ℕ
-  A = numbers start.args.arities.now
+  A = numbers c.args.arities.now
 
   abbrev v : List ℕ
-  v = numbers start.args.bars.now
+  v = numbers c.args.bars.now
 
   abbrev b : List ℕ
-  b = start.args.row.now
+  b = c.args.row.now
 
   small : Bytes b
-  small i = (c.before.before.before.before.before.slice-known.given i).fits
+  small i = (c.slice_known-1.given i).fits
 
 -- a copy of all numbers, at the front of its room
 copied : (ns room room' : List ℕ) (n : ℕ) → n ≡ length ns → room' ≡ written room 0 (take n ns) → take n room' ≡ ns
 copied ns room room' n e d =
     ap (take n) d ∙ front_read ns room n (omega arith) ∙ ap (λ (k : ℕ). take k ns) e ∙ take-length ns
 
-alphabet-copied : (c : tie.After-decode) → take c.before.before.before.count.result c.decode.new.1.1.0 ≡ A c.before.before.before
+alphabet-copied : (c : tie.After-decode) → take c.count-k.result c.decode.new.room ≡ A c.before.before.before
 alphabet-copied c =
-    let k = c.before.before.before in
-    copied (A k) (start k).args.a.now c.decode.new.1.1.0 k.count.result k.count.ensures c.decode.ensures
+    let s = c.before.before.before in
+    copied (A s) c.args.a.now c.decode.new.room c.count-k.result c.count-k.ensures c.decode.ensures
 
-bars-copied : (c : tie.After-decode2) → take c.before.before.before.count2.result c.decode2.new.1.1.0 ≡ v c.before.before.before.before.before.before.before.before.before
+bars-copied : (c : tie.After-decode-2) → take c.count-n.result c.decode-2.new.room ≡ v c.before.before.before.before.before.before.before.before.before
 bars-copied c =
     let k = c.before.before.before.before.before.before.before.before.before in
-    copied (v k) (start k).args.numbers.now c.decode2.new.1.1.0 c.before.before.before.count2.result c.before.before.before.count2.ensures c.decode2.ensures
+    copied (v k) c.args.numbers.now c.decode-2.new.room c.count-n.result c.count-n.ensures c.decode-2.ensures
 
-count-requires : tie.Need-count-requires
+count-requires : tie.Need-count-k-requires
 count-requires c κs = search rules
 
-refusal-of-requires : tie.Need-refusal-of-requires
+refusal-of-requires : tie.Need-refusal_of-requires
 refusal-of-requires c κs = search rules
 
-returns : tie.Need-returns
+returns : tie.Need-returns-then-k-gt-ALPHABET_MOST
 returns c =
-    let k = c.before.before in
-    let n = k.count.ensures in
-    let over : alphabet_most < length (A k) = omega (arith, n, c.before.if1.true) in
-    read_refused (A k) (v k) (b k) (small k) (Arities (Count (length (A k)))) c.refusal-of.result (read_alphabet_long (A k) (v k) _ over)
-    (c.refusal-of.ensures ∙ ap (λ (m : ℕ). refused (Arities (Count m))) n)
+    let s = c.before.before in
+    let n = c.count-k.ensures in
+    let over : alphabet_most < length (A s) = omega (arith, n, c.if-k-gt-ALPHABET_MOST.true) in
+    read_refused (A s) (v s) (b s) (small s) (Arities (Count (length (A s)))) c.refusal_of.result (read_alphabet_long (A s) (v s) _ over)
+    (c.refusal_of.ensures ∙ ap (λ (m : ℕ). refused (Arities (Count m))) n)
 
 decode-requires : tie.Need-decode-requires
 decode-requires c κs = search rules
 
-count-requires-2 : tie.Need-count-requires-2
+count-requires-2 : tie.Need-count-n-requires
 count-requires-2 c κs = search rules
 
-slice-reshare-prefix-refuse-long : tie.Need-slice-reshare-prefix-refuse-long
+slice-reshare-prefix-refuse-long : tie.Need-slice_bounds-refuse_long-end
 slice-reshare-prefix-refuse-long c = search rules
 
-slice-aggregate-refuse-long : tie.Need-slice-aggregate-refuse-long
-slice-aggregate-refuse-long c = sym (length-take-le _ _ (slice-reshare-prefix-refuse-long c.before))
+slice-aggregate-refuse-long : tie.Need-slice_bounds-refuse_long-end-then-n-gt-BARS_MOST
+slice-aggregate-refuse-long c = sym (length-take-le _ _ (slice-reshare-prefix-refuse-long c))
 
-refuse-long-requires : tie.Need-refuse-long-requires
+refuse-long-requires : tie.Need-refuse_long-requires
 refuse-long-requires c κs = search rules
 
-same_length : tie.Need-same-length
+same_length : tie.Need-shape_of-a-then-n-gt-BARS_MOST
 same_length c = search rules
 
-returns-2 : tie.Need-returns-2
+returns-2 : tie.Need-returns-then-n-gt-BARS_MOST
 returns-2 c =
-    let k = c.before.before.before.before.before.before.before.before.before in
-    let n = c.before.before.before.count2.ensures in
-    let over : bars_most < length (v k) = omega (arith, n, c.before.before.if2.true) in
+    let k = c.before.before.before.before.before.before.before.before in
+    let n = c.count-n.ensures in
+    let over : bars_most < length (v k) = omega (arith, n, c.if-n-gt-BARS_MOST.true) in
     let first = long_refused (A k) (length (v k)) in
-    read_refused (A k) (v k) (b k) (small k) first.0 c.refuse-long.result (read_long (A k) (v k) _ over ∙ first.1)
-    (c.refuse-long.ensures first.0 (ap₂ too_long (alphabet-copied c.before.before.before.before.before.before) n ∙ first.1))
+    read_refused (A k) (v k) (b k) (small k) first.0 c.refuse_long.result (read_long (A k) (v k) _ over ∙ first.1)
+    (c.refuse_long.ensures first.0 (ap₂ too_long (alphabet-copied c.before.before.before.before.before) n ∙ first.1))
 
 decode-requires-2 : tie.Need-decode-requires-2
 decode-requires-2 c κs = search rules
 
-slice-reshare-prefix-read-numbers : tie.Need-slice-reshare-prefix-read-numbers
+slice-reshare-prefix-read-numbers : tie.Need-slice_bounds-read_numbers-end
 slice-reshare-prefix-read-numbers c = search rules
 
-slice-aggregate-read-numbers : tie.Need-slice-aggregate-read-numbers
-slice-aggregate-read-numbers c = sym (length-take-le _ _ (slice-reshare-prefix-read-numbers c.before))
+slice-aggregate-read-numbers : tie.Need-slice_bounds-read_numbers-end-2
+slice-aggregate-read-numbers c = sym (length-take-le _ _ (slice-reshare-prefix-read-numbers c))
 
-slice-reshare-prefix-read-numbers-2 : tie.Need-slice-reshare-prefix-read-numbers-2
+slice-reshare-prefix-read-numbers-2 : tie.Need-slice_bounds-read_numbers-end-3
 slice-reshare-prefix-read-numbers-2 c = search rules
 
-slice-aggregate-read-numbers-2 : tie.Need-slice-aggregate-read-numbers-2
-slice-aggregate-read-numbers-2 c = sym (length-take-le _ _ (slice-reshare-prefix-read-numbers-2 c.before))
+slice-aggregate-read-numbers-2 : tie.Need-slice_bounds-read_numbers-end-4
+slice-aggregate-read-numbers-2 c = sym (length-take-le _ _ (slice-reshare-prefix-read-numbers-2 c))
 
-read-numbers-requires : tie.Need-read-numbers-requires
+read-numbers-requires : tie.Need-read_numbers-requires
 read-numbers-requires c κs =
-    let k = c.before.before.before.before.before.before.before.before.before.before.before.before.before.before.before.before in
     let long = slice-aggregate-read-numbers-2 c.before.before.before in
-    let most = c.before.before.before.before.before.before.before.before.before.if2.false in
-    let n = c.before.before.before.before.before.before.before.before.before.before.count2.ensures in
-    (omega (arith, long, n, most, (start k).requires.1.1), omega (arith, long, n, most, (start k).requires.1.2))
+    let most = c.if-n-gt-BARS_MOST.false in
+    let n = c.count-n.ensures in
+    (omega (arith, long, n, most, c.requires.1.1), omega (arith, long, n, most, c.requires.1.2))
 
-same-length-2 : tie.Need-same-length-2
+same-length-2 : tie.Need-shape_of-row
 same-length-2 c = search rules
 
-same-length-3 : tie.Need-same-length-3
+same-length-3 : tie.Need-shape_of-a
 same-length-3 c = search rules
 
-same-length-4 : tie.Need-same-length-4
+same-length-4 : tie.Need-shape_of-numbers
 same-length-4 c = search rules
 
-same-length-5 : tie.Need-same-length-5
+same-length-5 : tie.Need-shape_of-lacks
 same-length-5 c = search rules
 
-same-length-6 : tie.Need-same-length-6
+same-length-6 : tie.Need-shape_of-symbols
 same-length-6 c = search rules
 
-returns-3 : tie.Need-returns-3
+returns-3 : tie.Need-returns
 returns-3 c =
-    let k = c.before.before.before.before.before.before.before.before.before.before.before.before.before.before.before.before.before.before.before.before.before.before.before in
-    let call = c.before.before.before.before.before.before.read-numbers in
-    let last : List ℕ = call.new.1.1.1.1.0 in
-    let arities : List ℕ = take k.count.result c.before.before.before.before.before.before.before.before.before.before.before.before.before.before.before.before.before.before.before.before.decode.new.1.1.0 in
-    subst (λ (l : List ℕ). BarsReadBytes l (v k) (b k) call.result last) (alphabet-copied c.before.before.before.before.before.before.before.before.before.before.before.before.before.before.before.before.before.before.before.before)
-    (subst (λ (l : List ℕ). BarsReadBytes arities l (b k) call.result last) (bars-copied c.before.before.before.before.before.before.before.before.before.before.before.before.before.before) call.ensures)
+    let s = c.before.before.before.before.before.before.before.before.before.before.before.before.before.before.before.before.before.before.before.before.before in
+    let call = c.read_numbers in
+    let last : List ℕ = call.new.row in
+    let arities : List ℕ = take c.count-k.result c.decode.new.room in
+    subst (λ (l : List ℕ). BarsReadBytes l (v s) (b s) call.result last) (alphabet-copied c.before.before.before.before.before.before.before.before.before.before.before.before.before.before.before.before.before.before)
+    (subst (λ (l : List ℕ). BarsReadBytes arities l (b s) call.result last) (bars-copied c.before.before.before.before.before.before.before.before.before.before.before.before) call.ensures)
 
-pub read-in-spec : {M : Type 1} → statement M
-read-in-spec =
+pub read_in_spec : {M : Type 1} → statement M
+read_in_spec =
     tie.close
     (tie.spec
     count-requires
