@@ -1,5 +1,5 @@
 -- Lines that go out page by page.
-use Rattle.std.proofs.Common.{◌≡◌, ℕ, ◌+◌, ◌-◌, ◌≤◌, List, [], ◌∷◌, ◌++◌, None, Some, Option, length, take, drop, refl, sym, ap, ◌∙◌, subst, arith, append_assoc}
+use Rattle.std.proofs.Common.{◌≡◌, ℕ, ◌+◌, ◌-◌, ◌≤◌, List, [], ◌∷◌, ◌++◌, None, Some, Option, take, drop, refl, sym, ap, ◌∙◌, subst, arith, append_assoc, append-nil}
 use Rattle.std.proofs.Math.Seq.{take-add}
 use Rattle.std.specs.Io.KnownBytes.{Appends}
 use Rattle.seek_text.specs.Seek.{joined}
@@ -9,7 +9,7 @@ use Rattle.seek_text.specs.declared.pages.Page.{Page}
 -- A writer that held what it held has nothing more.
 pub nothing_more : (a : Option (List ℕ)) → Appends a a []
 nothing_more None = tt
-nothing_more (Some x) = search (Rattle.std.proofs.lemmas.List.append-nil)
+nothing_more (Some x) = sym (append-nil x)
 
 appended : (a b c : Option (List ℕ)) (bs cs : List ℕ) → Appends a b bs → Appends b c cs → Appends a c (bs ++ cs)
 appended None b c bs cs p q = tt
