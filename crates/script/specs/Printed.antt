@@ -1,3 +1,4 @@
+-- Inside: no public contract cites what stands in this file, and no reader has to believe it.
 -- What a case answers, as text: bytes in ASCII. 32 is a space, 10 a newline.
 use Rattle.std.specs.Prelude.{ℕ, List, [], ◌∷◌, ◌++◌, decimal, flat_map}
 
