@@ -69,5 +69,5 @@ fn lines(to: &mut impl Write, input: &[u8]) -> io::Result<()> {
 fn main(rt: HostRuntime) -> io::Result<()> {
     let mut input = [0u8; 65536];
     let n = script::read_full(&mut rt.stdin(), &mut input);
-    lines(&to, &input[..n])
+    lines(&mut rt.stdout(), &input[..n])
 }
