@@ -5,7 +5,6 @@ use Rattle.checks.proofs.Classing.{found_right, before-classes, then_classes}
 use borrow.Author.Rules.{rules}
 use Rattle.checks.proofs.given.check_beside.Statement.{statement}
 use Rattle.checks.proofs.given.check_beside.Tie as tie
-use Rattle.tables.proofs.check_beside.Reads as check-beside-reads'
 
 check-beside-requires : tie.Need-check_beside-found-requires
 check-beside-requires c κs = search rules
