@@ -22,9 +22,9 @@ use Rattle.searches.specs.declared.Listing.{Listing}
 use Rattle.searches.specs.declared.Listing.TheVariants.{All, Needs}
 use Rattle.checks.specs.Checks.{results_check, sheet_check}
 use Rattle.sheets.specs.Result.{result_of}
-use Rattle.sheets.specs.Sheets.{alone, result, positions_of, results_of, Answerable, SheetTold}
+use Rattle.sheets.specs.Sheets.{result, positions_of, results_of, Answerable, SheetTold}
 use Rattle.sheets.proofs.Sheets.{alone_listed, alone-refused}
-use Rattle.sparrowhem.specs.Sheet.{sheet_found, Positions, all_positions, all_results, check_of, SheetAnswers}
+use Rattle.sparrowhem.specs.Sheet.{sheet_found, Positions, all_positions, all_results, SheetAnswers}
 use Rattle.sparrowhem.specs.declared.search.SheetFound.{SheetFound}
 use Rattle.sparrowhem.specs.declared.search.SheetFound.TheVariants.{Matches as SheetMatches, Refused as SheetRefused}
 

@@ -7,7 +7,7 @@ use mathlib.Core.List.{List}
 use mathlib.Core.Logic.{◌⊎◌, inl, inr, ⊎_elim}
 use native.Mathlib.Omega.{arith}
 use Rattle.rows.specs.Programme.{Alphabet, Programme, alphabet_of, programme}
-use Rattle.rows.specs.Refusals.{given, pattern}
+use Rattle.rows.specs.Refusals.{pattern}
 use Rattle.rows.specs.declared.Check.TheVariants.{Fine}
 use Rattle.patterns.specs.Searchable.{Checked}
 use Rattle.searches.specs.declared.Listing.TheVariants.{All, Needs}

@@ -1,8 +1,8 @@
 -- `c_copied::copy_kept` meets its contract. The numbers that were read stand at the front.
 -- Assumes nothing.
-use mathlib.Core.Path.{◌≡◌, ap, ◌∙◌}
+use mathlib.Core.Path.{ap, ◌∙◌}
 use native.Mathlib.Omega.{arith}
-use lib.ListN.{length, take}
+use lib.ListN.{take}
 use Rattle.wire.specs.Wire.{numbers}
 use Rattle.wire.proofs.Numbers.{front_read}
 use borrow.Author.Rules.{rules}

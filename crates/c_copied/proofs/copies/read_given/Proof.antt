@@ -9,10 +9,10 @@ use lib.Seq.{length-take-le}
 use Rattle.rows.specs.Programme.{Programme, alphabet_of, room}
 use Rattle.rows.specs.Refusals.{◌then◌, symbols, fresh, classed, keeps}
 use Rattle.rows.specs.declared.Keeping.{Keeping}
-use Rattle.rows.specs.declared.Keeping.TheVariants.{Sound, Unsound}
+use Rattle.rows.specs.declared.Keeping.TheVariants.{Sound}
 use Rattle.rows.specs.declared.Refusal.TheVariants.{Row}
 use Rattle.rows.specs.declared.Check.{Check}
-use Rattle.rows.specs.declared.Check.TheVariants.{Fine, Refused}
+use Rattle.rows.specs.declared.Check.TheVariants.{Fine}
 use Rattle.rows.proofs.Passing.{Fits}
 use Rattle.wire.specs.Wire.{numbers}
 use Rattle.c_lent.specs.Lent.{lent, numbers_of}

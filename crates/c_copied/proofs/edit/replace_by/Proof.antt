@@ -20,7 +20,6 @@ use Rattle.wire.proofs.Numbers.{front_read}
 use Rattle.c_lent.specs.Answer.{refused}
 use Rattle.c_lent.specs.Lent.{Lent, lent, AreBytes, numbers_of}
 use Rattle.c_lent.specs.Calls.{ReplacedBytes}
-use Rattle.c_copied.specs.Copies.{Rooms}
 use Rattle.c_copied.proofs.Checks.{replacement_long}
 use Rattle.c_copied.proofs.Editing.{replaced_refused, copy_held, copy_decides}
 use borrow.Author.Rules.{rules}

@@ -1,13 +1,12 @@
 -- `c_copied::replace_in` meets its contract. What the passes over the copies find decides, or the replacement goes on.
 -- Assumes nothing.
 use Prim.Native.Nat.{ℕ}
-use mathlib.Core.Path.{◌≡◌, sym, ap, ap₂, ◌∙◌}
-use mathlib.Core.List.{List}
+use mathlib.Core.Path.{◌≡◌, sym, ap, ◌∙◌}
 use native.Mathlib.Omega.{arith}
-use lib.ListN.{length, take}
+use lib.ListN.{take}
 use lib.Seq.{length-take-le, take-take}
 use Rattle.rows.specs.Programme.{Alphabet, Programme, alphabet_of, room}
-use Rattle.rows.specs.Refusals.{◌then◌, symbols, fresh, keeps, given, replacement, position, grown}
+use Rattle.rows.specs.Refusals.{◌then◌, keeps, given, replacement, position, grown}
 use Rattle.rows.specs.Tree.{size}
 use Rattle.rows.specs.declared.Keeping.{Keeping}
 use Rattle.rows.specs.declared.Keeping.TheVariants.{Sound, Unsound}

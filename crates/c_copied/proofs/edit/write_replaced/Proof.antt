@@ -1,6 +1,6 @@
 -- `c_copied::write_replaced` meets its contract. The copies are changed, and their fronts written back.
 -- Assumes nothing.
-use Prim.Native.Nat.{ℕ, ◌≤◌, max}
+use Prim.Native.Nat.{ℕ, ◌≤◌}
 use mathlib.Core.Path.{◌≡◌, sym, ap, ◌∙◌}
 use mathlib.Core.List.{List}
 use native.Mathlib.Omega.{arith}
@@ -10,7 +10,7 @@ use lib.Seq.{length-take-le}
 use mir.Syntax.{w32}
 use mir.Val.{to_z, of_z}
 use mir.Facts.{to_z-of_z}
-use Rattle.rows.specs.Programme.{Alphabet, Programme, alphabet_of, programme, room}
+use Rattle.rows.specs.Programme.{Alphabet, alphabet_of, programme, room}
 use Rattle.tables.proofs.Given.{Held}
 use Rattle.rows.specs.Buffers.{written}
 use Rattle.rows.specs.Tree.{size}

@@ -7,7 +7,7 @@ use native.Mathlib.Omega.{arith}
 use lib.ListN.{length, take}
 use lib.Seq.{length-take-le, take-length}
 use Rattle.rows.specs.Programme.{Alphabet, Programme, alphabet_of, programme}
-use Rattle.rows.specs.Refusals.{◌then◌, given, pattern}
+use Rattle.rows.specs.Refusals.{◌then◌, pattern}
 use Rattle.rows.specs.declared.Check.{Check}
 use Rattle.rows.specs.declared.Check.TheVariants.{Fine, Refused}
 use Rattle.rows.specs.declared.Fault.TheVariants.{Long}

@@ -1,13 +1,13 @@
 -- `c_copied::write_found` meets its contract. The matches at the front of the room are written to the output, if it has room for them.
 -- Assumes nothing.
-use Prim.Native.Nat.{ℕ, ◌≤◌}
-use mathlib.Core.Path.{◌≡◌, sym}
+use Prim.Native.Nat.{◌≤◌}
+use mathlib.Core.Path.{sym}
 use native.Mathlib.Omega.{arith}
 use lib.ListN.{length}
 use lib.Seq.{length-take-le}
 use Rattle.rows.specs.Programme.{Programme, programme}
 use Rattle.checks.proofs.Passing.{search_checked}
-use Rattle.wire.specs.Wire.{numbers, Bytes}
+use Rattle.wire.specs.Wire.{Bytes}
 use Rattle.c_copied.proofs.Found.{found-short, found_all}
 use borrow.Author.Rules.{rules}
 use Rattle.c_copied.proofs.search.write_found.Statement.{statement}

@@ -1,6 +1,6 @@
 -- `c_lent::read_sizes` meets its contract. The first of two checks that refuses.
 -- Assumes nothing.
-use mathlib.Core.Path.{◌≡◌, refl, sym, ap, ◌∙◌}
+use mathlib.Core.Path.{refl, sym, ap, ◌∙◌}
 use Rattle.rows.specs.Refusals.{keeps}
 use Rattle.rows.specs.declared.Refusal.TheVariants.{Row}
 use Rattle.rows.proofs.Passing.{clash}

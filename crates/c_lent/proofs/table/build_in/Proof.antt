@@ -1,12 +1,11 @@
 -- `c_lent::build_in` meets its contract. Refusals 1 to 6 are told by the sizes, and the rest under the alphabet that was read.
 -- Assumes nothing.
 use Prim.Native.Nat.{ℕ, min}
-use mathlib.Core.Path.{◌≡◌, refl, sym, ap, ap₂, subst, ◌∙◌}
+use mathlib.Core.Path.{◌≡◌, sym, ap, ap₂, subst, ◌∙◌}
 use mathlib.Core.List.{List}
 use native.Mathlib.Omega.{arith}
 use lib.ListN.{length, take}
-use lib.Seq.{length-take-le}
-use Rattle.rows.specs.Programme.{Alphabet, alphabet_of, room}
+use Rattle.rows.specs.Programme.{alphabet_of, room}
 use Rattle.rows.specs.Buffers.{after}
 use Rattle.rows.specs.declared.Check.{Check}
 use Rattle.rows.specs.declared.Check.TheVariants.{Fine, Refused}

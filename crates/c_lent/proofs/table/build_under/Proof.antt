@@ -1,14 +1,13 @@
 -- `c_lent::build_under` meets its contract. Table and classes are filled where nothing is refused; a refusal leaves their bytes, which are those
 -- of their numbers.
 -- Assumes nothing.
-use Prim.Native.Nat.{ℕ, ◌≤◌}
+use Prim.Native.Nat.{ℕ}
 use mathlib.Core.Path.{◌≡◌, refl, sym, ap, ◌∙◌}
 use mathlib.Core.List.{List}
 use native.Mathlib.Omega.{arith}
 use lib.IntN.{pos}
 use lib.ListN.{length, take}
 use lib.Seq.{length-take-le}
-use Rattle.rows.specs.Limits.{row_most}
 use Rattle.rows.specs.Programme.{Alphabet, Programme, alphabet_of}
 use Rattle.rows.specs.declared.Check.{Check}
 use Rattle.rows.specs.declared.Check.TheVariants.{Fine, Refused}

@@ -1,8 +1,6 @@
 -- `sparrowhem::search::sheet` meets its contract: what the checks leave is answered.
 -- Assumes nothing.
-use Prim.Native.Nat.{ℕ}
 use mathlib.Core.Path.{◌≡◌, sym, ◌∙◌}
-use mathlib.Core.List.{List}
 use lib.ListN.{length}
 use Rattle.rows.specs.Programme.{Alphabet, Programme, alphabet_of, programme}
 use Rattle.rows.specs.declared.Check.TheVariants.{Fine}
