@@ -28,7 +28,7 @@ struct Tally {
 
 fn more(n: usize, yes: bool) -> usize {
     if yes {
-        return std::num::wrapping_add_usize(n, 1);
+        return n.wrapping_add(1);
     }
     n
 }
@@ -169,7 +169,7 @@ fn parts(case: &[u16], row: &[u16], positions: &[u16], results: &[u16], tally: T
                 sum,
             );
         }
-        at = std::num::wrapping_add_usize(at, n);
+        at = at.wrapping_add(n);
     }
     sum
 }

@@ -6,8 +6,6 @@
 //     A, T, E, C are alphabet A and row T of docs/SCOPE.md, the ends of T's subtrees, which are its table, and its classes.
 ghost use Rattle.std.specs.Prelude.{◌≡◌, ◌≢◌, ◌<◌, ◌≤◌, ◌-◌, ℕ, get_or, length, min, replicate};
 
-use std::num::wrapping_add_u16;
-
 // Stands for a stroke among the numbers that are read. No case has this number.
 const STROKE: u16 = 60000;
 
@@ -121,7 +119,7 @@ fn with_digit(n: u16, digit: u8) -> u16 {
     if digit < b'0' {
         return n;
     }
-    wrapping_add_u16(n * 10, (digit - b'0') as u16)
+    (n * 10).wrapping_add((digit - b'0') as u16)
 }
 
 // The number that digits make.
@@ -155,7 +153,7 @@ fn put(mark: u8, digits: &[u8], room: &mut [u16], first: usize) -> usize
     match mark {
         b'S' => push(room, first, 65535),
         b'B' => push(room, first, 65534),
-        b'X' => push(room, first, wrapping_add_u16(65280, value(digits))),
+        b'X' => push(room, first, 65280u16.wrapping_add(value(digits))),
         b'|' => push(room, first, STROKE),
         b'x' => repeat(room, first, value(digits)),
         b'P' => rise(room, first, value(digits)),
