@@ -37,7 +37,7 @@ use Rattle.catalogue.specs.Refusals.{file_size, holds, few, rises, placed, rows_
 use Rattle.catalogue_read.specs.declared.Opened.TheVariants.{Holds}
 use Rattle.catalogue_read.specs.declared.numbers.Taken.TheVariants.{Numbers}
 use Rattle.catalogue_write.specs.declared.Filed.TheVariants.{Bytes, Refused as Unfiled}
-use Rattle.promises.specs.Worked.{A, T, T_built, T_stale, T_misclassed, T_with_3_0_1, T_with_1, places, S, X0, spans_of_X0, ends_of_T, classes_of_T, four_patterns, four_lengths, two_rows, two_programmes, entry, unset-entry, unset-bytes, ranks, two_parts, two_parts_barred, a_bar_short, last_bar_lost, Worked}
+use Rattle.promises.specs.Worked.{A, T, T_built, T_stale, T_misclassed, T_with_3_0_1, T_with_1, places, S, X0, spans_of_X0, ends_of_T, classes_of_T, four_patterns, four_lengths, two_rows, two_programmes, entry, unset_entry, unset_bytes, ranks, two_parts, two_parts_barred, a_bar_short, last_bar_lost, Worked}
 use Rattle.promises.proofs.Demand1.{build_one, find_one, variables_one, replace_one}
 use Rattle.promises.proofs.Sheeting.{sheet_one}
 use Rattle.promises.proofs.Catalogues.{read_one, take_one, write_one}
@@ -80,7 +80,7 @@ worked =
       misclassed_find = (FoundRefused misclassed, says (find_one A T_misclassed (3 ∷ X0 ∷ X0 ∷ []) (places 9)) (FoundRefused misclassed, places 9) refl, refl);
       misclassed_variables = (BindRefused misclassed, says (variables_one A T_misclassed (3 ∷ X0 ∷ X0 ∷ []) 1 (places 32)) (BindRefused misclassed, places 32) refl, refl);
       misclassed_replace = (Unreplaced misclassed, says (replace_one A T_misclassed 9 (1 ∷ []) 1) (Unreplaced misclassed, T_misclassed) refl, refl);
-      four-at-once = (
+      four_at_once = (
         SheetMatches 4 3,
         says (sheet_one A T_built four_patterns four_lengths (places 9) (places 13))
             (SheetMatches 4 3, 1 ∷ 6 ∷ 4 ∷ places 6, 0 ∷ 0 ∷ 2 ∷ 14 ∷ 2 ∷ 0 ∷ 11 ∷ 0 ∷ 0 ∷ 0 ∷ 0 ∷ 1 ∷ places 1) refl,
@@ -93,12 +93,12 @@ worked =
       );
       two_written = (
         Bytes 53,
-        says (write_one A.arities (7 ∷ 900 ∷ []) (9 ∷ 1 ∷ []) two_rows (unset-bytes 60)) (Bytes 53, two_programmes ++ unset-bytes 7) refl,
+        says (write_one A.arities (7 ∷ 900 ∷ []) (9 ∷ 1 ∷ []) two_rows (unset_bytes 60)) (Bytes 53, two_programmes ++ unset_bytes 7) refl,
         refl,
       );
-      two-read = (
+      two_read = (
         Holds 2 5,
-        says (read_one two_programmes (unset-entry ∷ unset-entry ∷ unset-entry ∷ [])) (Holds 2 5, entry 7 33 9 ∷ entry 900 51 1 ∷ unset-entry ∷ []) refl,
+        says (read_one two_programmes (unset_entry ∷ unset_entry ∷ unset_entry ∷ [])) (Holds 2 5, entry 7 33 9 ∷ entry 900 51 1 ∷ unset_entry ∷ []) refl,
         refl,
       );
       second_row = (
@@ -108,12 +108,12 @@ worked =
       );
       two_cut_wrongly = (
         OfProgramme 7 (Early 8),
-        says (write_one A.arities (7 ∷ 900 ∷ []) (8 ∷ 2 ∷ []) two_rows (unset-bytes 60)) (Unfiled (OfProgramme 7 (Early 8)), unset-bytes 60) refl,
+        says (write_one A.arities (7 ∷ 900 ∷ []) (8 ∷ 2 ∷ []) two_rows (unset_bytes 60)) (Unfiled (OfProgramme 7 (Early 8)), unset_bytes 60) refl,
         refl,
         refl,
       );
-      bars_written_lem = (BarsNumbers 14, says (bars_write_one ranks two_parts (places 16)) (BarsNumbers 14, two_parts_barred ++ places 2) refl, refl);
-      bars_read_lem = (Symbols 7, says (bars_read_one ranks two_parts_barred (places 9)) (Symbols 7, two_parts ++ places 2) refl, refl);
+      bars_written = (BarsNumbers 14, says (bars_write_one ranks two_parts (places 16)) (BarsNumbers 14, two_parts_barred ++ places 2) refl, refl);
+      bars_read = (Symbols 7, says (bars_read_one ranks two_parts_barred (places 9)) (Symbols 7, two_parts ++ places 2) refl, refl);
       child_too_many = (Unread (Bars (Children 8)), says (bars_read_one ranks a_bar_short (places 9)) (Unread (Bars (Children 8)), places 9) refl, refl);
       root_unclosed = (Unread (Bars (Unclosed 17)), says (bars_read_one ranks last_bar_lost (places 9)) (Unread (Bars (Unclosed 17)), places 9) refl, refl);
     }

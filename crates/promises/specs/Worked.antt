@@ -145,12 +145,12 @@ two_programmes =
 abbrev pub entry : ℕ → ℕ → ℕ → Entry
 entry n b l = record { programme = n; start = b; length = l }
 
-abbrev pub unset-entry : Entry
-unset-entry = entry unset unset unset
+abbrev pub unset_entry : Entry
+unset_entry = entry unset unset unset
 
 -- so many bytes of a file that were not written
-abbrev pub unset-bytes : ℕ → List ℕ
-unset-bytes n = replicate n 170
+abbrev pub unset_bytes : ℕ → List ℕ
+unset_bytes n = replicate n 170
 
 -- symbols of arity 0, 1 and 2, a row of them, and its bar form; the form as it is printed elsewhere, a bar short; and the form of another
 -- row, printed without its last bar
@@ -208,20 +208,20 @@ pub record Worked : Type 0 where
   pub misclassed_replace : ReplaceSays A T_misclassed 9 (1 ∷ []) 1 (refused 62 6) T_misclassed
   -- 13: four patterns at once, with 2, none, none and 1 matches: the second ends before its tree does, the third is empty; and the same
   -- with 11 places for the 12 numbers of the results
-  pub four-at-once :
+  pub four_at_once :
       SheetSays A T_built four_patterns four_lengths (places 9) (places 13) (gives (pos 4 ∷ pos 3 ∷ [])) (1 ∷ 6 ∷ 4 ∷ places 6)
       (0 ∷ 0 ∷ 2 ∷ 14 ∷ 2 ∷ 0 ∷ 11 ∷ 0 ∷ 0 ∷ 0 ∷ 0 ∷ 1 ∷ places 1)
   pub four_without_room : SheetSays A T_built four_patterns four_lengths (places 9) (places 11) (refused 19 12) (places 9) (places 11)
   -- 14: the file of two programmes in a buffer of 60 bytes; read again, with a record to spare; the row of the second record; and the
   -- same with the lengths 8 and 2, by which the row of programme 7 ends early
-  pub two_written : WriteSays A.arities (7 ∷ 900 ∷ []) (9 ∷ 1 ∷ []) two_rows (unset-bytes 60) (gives (pos 53 ∷ [])) (two_programmes ++ unset-bytes 7)
-  pub two-read :
-      ReadSays two_programmes (unset-entry ∷ unset-entry ∷ unset-entry ∷ []) (gives (pos 2 ∷ pos 5 ∷ [])) (entry 7 33 9 ∷ entry 900 51 1 ∷ unset-entry ∷ [])
+  pub two_written : WriteSays A.arities (7 ∷ 900 ∷ []) (9 ∷ 1 ∷ []) two_rows (unset_bytes 60) (gives (pos 53 ∷ [])) (two_programmes ++ unset_bytes 7)
+  pub two_read :
+      ReadSays two_programmes (unset_entry ∷ unset_entry ∷ unset_entry ∷ []) (gives (pos 2 ∷ pos 5 ∷ [])) (entry 7 33 9 ∷ entry 900 51 1 ∷ unset_entry ∷ [])
   pub second_row : RowSays two_programmes (entry 900 51 1) (places 9) (gives (pos 1 ∷ [])) (1 ∷ places 8)
-  pub two_cut_wrongly : WriteRefuses A.arities (7 ∷ 900 ∷ []) (8 ∷ 2 ∷ []) two_rows (unset-bytes 60) (refused 8 8) 7
+  pub two_cut_wrongly : WriteRefuses A.arities (7 ∷ 900 ∷ []) (8 ∷ 2 ∷ []) two_rows (unset_bytes 60) (refused 8 8) 7
   -- 15: a row of seven symbols in bar notation, in 16 places; and read back, into nine
-  pub bars_written_lem : BarsWriteSays ranks two_parts (places 16) (gives (pos 14 ∷ [])) (two_parts_barred ++ places 2)
-  pub bars_read_lem : BarsReadSays ranks two_parts_barred (places 9) (gives (pos 7 ∷ [])) (two_parts ++ places 2)
+  pub bars_written : BarsWriteSays ranks two_parts (places 16) (gives (pos 14 ∷ [])) (two_parts_barred ++ places 2)
+  pub bars_read : BarsReadSays ranks two_parts_barred (places 9) (gives (pos 7 ∷ [])) (two_parts ++ places 2)
   -- 16: a node with a child too many; and bars that end before the root is closed
   pub child_too_many : BarsReadSays ranks a_bar_short (places 9) (refused 71 8) (places 9)
   pub root_unclosed : BarsReadSays ranks last_bar_lost (places 9) (refused 72 17) (places 9)
