@@ -99,6 +99,7 @@ fn number_at(text: &[u8], from: Cursor) -> Number
 }
 
 // The line of numbers at a cursor. They are written into the buffer from place `first` on.
+#[tactic(auto, using(crate::proofs::Lining::empty_line, crate::proofs::Lining::sofar_none, crate::proofs::Lining::sofar_more, crate::proofs::Lining::stands_within))]
 pub fn read_line(text: &[u8], from: Cursor, out: &mut [u16], first: usize) -> Line
     requires { LineRoom text.now from out.old first }
     ensures { LineAt text.now from out.old first result out.new }
