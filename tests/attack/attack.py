@@ -7,7 +7,7 @@ contract has a hole. Those that are known to answer the same stand in same_answe
 
     python3 tests/attack/attack.py [CRATE ..]
 
-Without a name it tries every crate but the programs, and `script`, by which two of them print. That takes about an hour, so it
+Without a name it tries every crate but the programs, and `script`, by which they read and print. That takes about an hour, so it
 is no part of the gate. A line tells of each version that is proved and not known, and of each known one that is not proved; the
 exit status is 0 if there is none.
 """
