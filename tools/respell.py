@@ -43,6 +43,12 @@ GIVEN = {
     "Read-to": "ReadUpTo",
     "read-to": "read_up_to",
     "a-bar-short": "a_bar_short",
+    "bars-written": "bars_written",
+    "bars-read": "bars_read",
+    "four-at-once": "four_at_once",
+    "two-read": "two_read",
+    "unset-entry": "unset_entry",
+    "unset-bytes": "unset_bytes",
 }
 
 
