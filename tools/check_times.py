@@ -2,15 +2,16 @@
 """How long the check takes: writes docs/CHECK-TIMES.md, each figure with that of the last committed page beside it.
 
     python3 tools/check_times.py                        runs the gate, on a fresh clone of the last commit
-    python3 tools/check_times.py --no-gate [CRATE ..]   proves the crates alone (or those named, and what they rest on), and only
+    python3 tools/check_times.py --no-gate [CRATE ..]   runs `rt ci` alone (or for those named, and what they rest on), and only
                                                         prints the table
 
 One run of the gate gives all figures: it is run under a kit that is the installed one, but for a prover that notes the processor
-time (user and system) of each call. A call proves one crate, or tries one must-fail edit. The figures are of use only where
-nothing else runs on the machine.
+time (user and system) of each call; what other runs have kept is not used. A call belongs to the proof of one crate, or tries one
+must-fail edit. The figures are of use only where nothing else runs on the machine.
 """
 import os
 import re
+import shutil
 import subprocess
 import sys
 import tempfile
@@ -30,20 +31,22 @@ GATE = ("processor seconds", "seconds on the clock", "last line")
 
 
 def timed_kit(room, notes):
-    """A kit whose prover notes what each call takes; all else in it leads to the installed one."""
+    """A kit whose prover notes what each call takes; all else in it leads to the installed one, but for the commands, which look for
+    their kit where they lie."""
     told = subprocess.run(["rt", "doc"], capture_output=True, text=True, check=True).stdout.strip()
-    real, kit = os.path.dirname(os.path.dirname(told)), os.path.join(room, "kit")
-    inner = os.path.join("on", os.uname().machine, "bin")
-    folder = ""
-    for step in ("on", os.uname().machine, "bin", None):
-        os.mkdir(os.path.join(kit, folder))
-        for name in os.listdir(os.path.join(real, folder)):
-            if name != (step or "rattle"):
-                os.symlink(os.path.join(real, folder, name), os.path.join(kit, folder, name))
-        folder = os.path.join(folder, step or "")
-    prover = os.path.join(kit, inner, "rattle")
+    real, kit = os.path.dirname(told), os.path.join(room, "kit")
+    os.makedirs(os.path.join(kit, "bin"))
+    for name in os.listdir(real):
+        if name != "bin":
+            os.symlink(os.path.join(real, name), os.path.join(kit, name))
+    for name in os.listdir(os.path.join(real, "bin")):
+        if name.startswith("rt"):
+            shutil.copy2(os.path.join(real, "bin", name), os.path.join(kit, "bin", name))
+        elif name != "rattle":
+            os.symlink(os.path.join(real, "bin", name), os.path.join(kit, "bin", name))
+    prover = os.path.join(kit, "bin", "rattle")
     with open(prover, "w", encoding="utf-8") as file:
-        file.write(PROVER.format(rattle=os.path.join(real, inner, "rattle"), notes=notes))
+        file.write(PROVER.format(rattle=os.path.join(real, "bin", "rattle"), notes=notes))
     os.chmod(prover, 0o755)
     return kit
 
@@ -51,7 +54,7 @@ def timed_kit(room, notes):
 def run(command, clone, kit):
     """Runs a command in the clone; gives its processor seconds, its seconds on the clock, and its last line."""
     began, last = time.time(), ""
-    own = {**os.environ, "RATTLE_HOME": kit}
+    own = {**os.environ, "PATH": os.path.join(kit, "bin") + os.pathsep + os.environ["PATH"]}
     with subprocess.Popen(command, cwd=clone, env=own, stdout=subprocess.PIPE, text=True, errors="replace") as running:
         for line in running.stdout:
             sys.stderr.write(line)
@@ -69,14 +72,14 @@ def measured(notes, crates):
     with open(notes, encoding="utf-8") as file:
         for line in file:
             seconds, verb, *words = line.rstrip("\n").split("\t")
-            if "--crate-name" not in words or "--crate-type" in words:
+            if verb not in ("check", "build") or "--crate-name" not in words:
                 continue
             figure = figures[words[words.index("--crate-name") + 1]]
-            if verb == "check":
+            if any(re.search(r"/rt-edits-[^/]*/\d+$", word) for word in words):
                 figure[1] += 1
                 figure[2] += float(seconds)
-            elif not figure[0]:
-                figure[0] = float(seconds)
+            else:
+                figure[0] += float(seconds)
     return {crate: [round(figure[0]), figure[1], round(figure[2])] for crate, figure in figures.items() if figure[0]}
 
 
@@ -140,13 +143,13 @@ def main():
     if any(word.startswith("-") for word in named) or (gate and named):
         sys.exit(__doc__)
     with open(os.path.join(ROOT, "crates.txt"), encoding="utf-8") as file:
-        crates = [line.split(":")[0] for line in file if ":" in line]
+        crates = [line.split(":")[0].split()[0] for line in file if ":" in line]
     with tempfile.TemporaryDirectory() as room:
         os.chmod(room, 0o755)
         clone, notes = os.path.join(room, "clone"), os.path.join(room, "notes")
         kit = timed_kit(room, notes)
         subprocess.run(["git", "clone", "-q", ROOT, clone], check=True)
-        took = run(["bash", ".ci/run"] if gate else ["rt", "check", *named], clone, kit)
+        took = run(["bash", ".ci/run"] if gate else ["rt", "ci", *named], clone, kit)
         now = measured(notes, crates)
     then, gate_then, on = before()
     if not gate:
@@ -156,8 +159,8 @@ def main():
     page = [
         "# How long the check takes",
         "",
-        "Processor seconds (user and system) to check each crate once from nothing; its must-fail edits in the gate, how many and",
-        "their processor seconds (each is a whole check of its crate); and the whole of `bash .ci/run` on a fresh clone, tests of",
+        "Processor seconds (user and system) to prove each crate from nothing; its must-fail edits in the gate, how many and their",
+        "processor seconds (each begins with what its crate's own check left); and the whole of `bash .ci/run` on a fresh clone, tests of",
         f"the host side included. Measured by `tools/check_times.py` on {machine()}",
         f"with {os.cpu_count()} cores. Beside each figure stands that of the page before this one, `-` where there is none; it was",
         f"measured on {on}. Later changes are measured against the processor seconds,",
