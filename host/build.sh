@@ -1,7 +1,7 @@
 #!/bin/sh
 # build.sh [PREFIX]: proves and builds the archive, and builds the four examples over it, in target/host; with PREFIX, installs
-# archive, header and pkg-config file there, and the program seek, proved and built as well, with its man page. On x86-64
-# the examples are built by CC (default cc), elsewhere by the kit.
+# archive, header and pkg-config file there, and the program seek, proved and built as well, with its man page. The examples
+# are built by CC (default cc).
 set -eu
 cd "$(dirname "$0")/.."
 prefix=${1:-}
@@ -11,11 +11,7 @@ out=target/host
 mkdir -p $out
 cp $archive $out/libsparrowhem.a
 for example in example morning exchange bars; do
-    if [ "$(uname -m)" = x86_64 ]; then
-        ${CC:-cc} -std=c99 -O2 -Wall -Wextra -Iinclude -o $out/$example host/$example.c -L$out -lsparrowhem
-    else
-        kit_cc $out/$example host/$example.c
-    fi
+    ${CC:-cc} -std=c99 -O2 -Wall -Wextra -Iinclude -o $out/$example host/$example.c -L$out -lsparrowhem
 done
 echo "built $out/libsparrowhem.a, $out/example, $out/morning, $out/exchange and $out/bars"
 [ -n "$prefix" ] || exit 0

@@ -119,17 +119,15 @@ try "the rows of the benchmark, compiled by rustc" rustc --edition 2021 -O -D wa
 try "are written" rows_of_the_benchmark
 try "the stack that build takes, compiled by the kit" kit_cc $out/stack tests/host/stack.c
 counted "the stack that build takes" stacked kit_run $out/stack
-if [ "$(uname -m)" = x86_64 ]; then
-    try "archive, header and seek are installed" installed
-    for example in example morning exchange bars; do
-        try "$example.c, by the machine's own compiler and as installed" example_installed $example
-    done
-    try "seek as installed, without the kit, and its man page" seek_installed
-    try "the checks, compiled by gcc" checks_by_gcc
-    counted "the checks, by gcc" $out/checks_gcc
-    try "build on a small thread, compiled by gcc" thread_by_gcc
-    counted "build on a small thread" stacked $out/thread
-fi
+try "archive, header and seek are installed" installed
+for example in example morning exchange bars; do
+    try "$example.c, by the machine's own compiler and as installed" example_installed $example
+done
+try "seek as installed, without the kit, and its man page" seek_installed
+try "the checks, compiled by gcc" checks_by_gcc
+counted "the checks, by gcc" $out/checks_gcc
+try "build on a small thread, compiled by gcc" thread_by_gcc
+counted "build on a small thread" stacked $out/thread
 try "the server, compiled by the kit" kit_cc $out/serve tests/host/serve.c
 try "the model and its inputs, compiled by rustc" rustc --edition 2021 -O -D warnings -o $out/drive tests/host/drive.rs
 counted "random inputs" drive $out/serve --inputs "${INPUTS:-220000}"

@@ -1,7 +1,7 @@
 -- The three demands on Sparrowhem (docs/SCOPE.md), each sentence as a theorem about the public calls, proved in proofs/Demand1, Demand2
 -- or Demand3, those on a sheet in proofs/Sheeting, under the same name in small letters. A contract, in crates/sparrowhem/specs, says
 -- which answer and which contents of the lent lists afterwards a call may have; that the code ends and meets it on every input is the
--- call's own proof there (`build-spec`, `find_spec` and so on); this file says what the contracts come to.
+-- call's own proof there (`build_spec`, `find_spec` and so on); this file says what the contracts come to.
 -- a is the alphabet, P a row with what is kept beside it, q the pattern, p the position, y the output, r the answer; in a replacement
 -- n is the row length and v the replacement; in a sheet qs are the patterns, laid end to end, ls their lengths, y the output for the
 -- positions and z that for the results; O is the row on record with what is kept beside it. ' marks what a list holds afterwards.
