@@ -1,5 +1,5 @@
 #!/usr/bin/env bash
-# Each statement and proof that docs/PROMISES.md names stands in the file that it names; each wrong version that it names, as
+# Each statement, proof and function that docs/PROMISES.md names stands in the file that it names; each wrong version that it names, as
 # `CRATE/NAME.edit`, is a file of that crate's must-fail folder or of its folder in tests/attack/edits, and not of both; and each of
 # the public calls' own is named there.
 set -u
@@ -8,7 +8,11 @@ cd "$(dirname "$0")/.." || exit 2
 passed=0
 failed=0
 while read -r name file; do
-  if grep -qE "^(abbrev |unfoldable )?(pub )?(record |data )?$name( |$)" "$file" 2>/dev/null; then
+  case $file in
+    *.rt) shape="^(pub )?(extern \"C\" )?fn $name[<(]" ;; # a function, which is proved to meet its contract
+    *) shape="^(abbrev |unfoldable )?(pub )?(record |data )?$name( |$)" ;;
+  esac
+  if grep -qE "$shape" "$file" 2>/dev/null; then
     passed=$((passed + 1))
   else
     echo "docs/PROMISES.md names $name in $file, which has no such thing"

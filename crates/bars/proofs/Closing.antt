@@ -1,5 +1,6 @@
 -- Reading accepts exactly the bar forms of ranked trees.
 -- Assumes nothing.
+use Rattle.std.specs.Prelude.{Result, Ok, Err, ⊤}
 use Prim.Native.Nat.{ℕ, zero, suc, ◌+◌, ◌*◌, ◌/◌, ◌≤◌}
 use mathlib.Core.Path.{◌≡◌, refl, sym, ap, ap₂, ◌∙◌}
 use mathlib.Core.List.{List, [], ◌∷◌, ◌++◌, append_assoc}
@@ -16,15 +17,13 @@ use Rattle.rows.specs.declared.Refusal.{Refusal}
 use Rattle.rows.specs.declared.Refusal.TheVariants.{Row, Bars}
 use Rattle.rows.specs.declared.Fault.TheVariants.{Stray}
 use Rattle.rows.specs.declared.Kept.TheVariants.{Misread}
-use Rattle.rows.specs.declared.Check.{Check}
-use Rattle.rows.specs.declared.Check.TheVariants.{Fine, Refused}
 use Rattle.rows.proofs.Tree.{length-prefix}
 use Rattle.rows.specs.Limits.{alphabet_most, bar}
 use Rattle.bars.specs.Bars.{bar_form, IsBars, unbarred, closing, rooted}
 use Rattle.rows.proofs.Passing.{not-refused}
 use Rattle.bars.proofs.Forms.{length_form, no_bar, unbarred_form}
 
-pick_true : (b : Bool) (x y : Check) → T b → pick b x y ≡ x
+pick_true : (b : Bool) (x y : Result ⊤ Refusal) → T b → pick b x y ≡ x
 pick_true true x y h = refl
 pick_true false x y h = absurd h
 
@@ -33,7 +32,7 @@ pub closing-symbol : (A : List ℕ) (k : ℕ) (ks : List ℕ) (at s : ℕ) (v : 
     → closing A (suc k ∷ ks) at (s ∷ v) ≡ closing A (get_or A s 0 ∷ (k ∷ ks)) (at + 1) v
 unfolding closing
 closing-symbol A k ks at s v few h =
-    ap (λ (b : Bool). pick b (Refused (Bars (Children at))) (pick (symbol A s) (closing A (get_or A s 0 ∷ (k ∷ ks)) (at + 1) v) (Refused (Row (Misread (Stray at)))))) (no_bar A s few h)
+    ap (λ (b : Bool). pick b (Err (Bars (Children at))) (pick (symbol A s) (closing A (get_or A s 0 ∷ (k ∷ ks)) (at + 1) v) (Err (Row (Misread (Stray at)))))) (no_bar A s few h)
     ∙ pick_true (symbol A s) _ _ h
 
 -- a bar where it lacks none closes it
@@ -57,22 +56,22 @@ closing_forest A (grow s cs f) k ks at v few r =
     ∙ closing_forest A f k ks (at + 1 + 2 * size cs + 1) v few r.3
     ∙ ap (λ (n : ℕ). closing A (k ∷ ks) n v) (omega arith)
 
-pub rooted_of_bars : (A v : List ℕ) → length A ≤ alphabet_most → IsBars A v → rooted A v ≡ Fine
+pub rooted_of_bars : (A v : List ℕ) → length A ≤ alphabet_most → IsBars A v → rooted A v ≡ Ok tt
 unfolding rooted bar_form Ranked closing
 rooted_of_bars A v few b =
     let s = b.tree.symbol in
     let cs = b.tree.children in
     let r = b.ranked in
     let opened : get_or A s 0 ≡ count cs + 0 = omega (arith, r.1) in
-    let rest : Check = closing A (get_or A s 0 ∷ []) 1 (bar_form cs ++ (bar ∷ [])) in
+    let rest : (Result ⊤ Refusal) = closing A (get_or A s 0 ∷ []) 1 (bar_form cs ++ (bar ∷ [])) in
     ap (rooted A) (sym b.reads)
-    ∙ ap (λ (c : Bool). pick c (Refused (Bars (NothingOpen 0))) (pick (symbol A s) rest (Refused (Row (Misread (Stray 0)))))) (no_bar A s few r.0)
+    ∙ ap (λ (c : Bool). pick c (Err (Bars (NothingOpen 0))) (pick (symbol A s) rest (Err (Row (Misread (Stray 0)))))) (no_bar A s few r.0)
     ∙ pick_true (symbol A s) _ _ r.0
     ∙ ap (λ (n : ℕ). closing A (n ∷ []) 1 (bar_form cs ++ (bar ∷ []))) opened
     ∙ closing_forest A cs 0 [] 1 (bar ∷ []) few r.2
 
 -- what a test has found where nothing is refused
-fine_then : (b : Bool) (x : Check) (r : Refusal) → pick b x (Refused r) ≡ Fine → T b × (x ≡ Fine)
+fine_then : (b : Bool) (x : Result ⊤ Refusal) (r : Refusal) → pick b x (Err r) ≡ Ok tt → T b × (x ≡ Ok tt)
 fine_then true x r e = (tt, e)
 fine_then false x r e = let z : ◌≡◌ {A = ℕ} 0 1 = cc in absurd (omega arith)
 
@@ -86,7 +85,7 @@ is_bar : (x : ℕ) → T (eqb x bar) → bar ≡ x
 is_bar x h = sym (eqb→eq x bar h)
 
 -- what is accepted closes the open nodes
-closes : (A v ks : List ℕ) (at : ℕ) → closing A ks at v ≡ Fine → Closes A ks v
+closes : (A v ks : List ℕ) (at : ℕ) → closing A ks at v ≡ Ok tt → Closes A ks v
 unfolding closing Closes bar_form Ranked count
 closes A [] [] at e = refl
 closes A [] (k ∷ ks) at e = let z : ◌≡◌ {A = ℕ} 0 1 = cc in absurd (omega arith)
@@ -111,7 +110,7 @@ closes A (x ∷ v) (suc k ∷ ks) at e =
       outer.5,
     )
 
-pub bars_of_rooted : (A v : List ℕ) → rooted A v ≡ Fine → IsBars A v
+pub bars_of_rooted : (A v : List ℕ) → rooted A v ≡ Ok tt → IsBars A v
 unfolding rooted Closes bar_form Ranked
 bars_of_rooted A [] e = let z : ◌≡◌ {A = ℕ} 0 1 = cc in absurd (omega arith)
 bars_of_rooted A (x ∷ v) e =
@@ -124,7 +123,7 @@ bars_of_rooted A (x ∷ v) e =
     }
 
 -- what is accepted has as many bars as symbols
-pub rooted_half : (A v : List ℕ) → length A ≤ alphabet_most → rooted A v ≡ Fine → length v / 2 ≡ length (unbarred v)
+pub rooted_half : (A v : List ℕ) → length A ≤ alphabet_most → rooted A v ≡ Ok tt → length v / 2 ≡ length (unbarred v)
 rooted_half A v few e =
     let b = bars_of_rooted A v e in
     let f = single b.tree in

@@ -3,7 +3,8 @@
 use Prim.Native.Nat.{ℕ, ◌+◌, ◌≤◌, ◌<◌}
 use mathlib.Core.Path.{◌≡◌, refl, sym, ap, ap₂, ◌∙◌}
 use mathlib.Core.List.{List, [], ◌∷◌, ◌++◌}
-use mathlib.Core.Bool.{Bool, true, false}
+use mathlib.Core.Bool.{Bool, true, false, not}
+use mir.Val.{bool_byte}
 use native.Mathlib.Omega.{arith}
 use native.Mathlib.Nat.{zero-add, add-zero}
 use native.Mathlib.Numerals.{add-one}
@@ -33,11 +34,19 @@ pub none_yet : (v b : List ℕ) → Copies v b b 0 0
 none_yet v b = record { few = omega arith; within = omega arith; long = refl; front = refl; whole = refl; left = refl }
 
 -- how many symbols a number is
-pub bar_none : (x : ℕ) → x ≡ bar → length (unbarred (x ∷ [])) ≡ 0
+pub symbols_of : (x : ℕ) → bool_byte (not (eqb x bar)) ≡ length (unbarred (x ∷ []))
+unfolding unbarred
+symbols_of x = go (eqb x bar)
+  where
+    go : (b : Bool) → bool_byte (not b) ≡ length (pick b [] (x ∷ []))
+    go true = refl
+    go false = refl
+
+bar_none : (x : ℕ) → x ≡ bar → length (unbarred (x ∷ [])) ≡ 0
 unfolding unbarred
 bar_none x e = ap (λ (b : Bool). length (pick b [] (x ∷ []))) (eq-eqb x bar e)
 
-pub other_one : (x : ℕ) → (x ≡ bar → ⊥) → length (unbarred (x ∷ [])) ≡ 1
+other_one : (x : ℕ) → (x ≡ bar → ⊥) → length (unbarred (x ∷ [])) ≡ 1
 unfolding unbarred
 other_one x n = ap (λ (b : Bool). length (pick b [] (x ∷ []))) (ne_eqb x bar n)
 
@@ -47,6 +56,10 @@ module _ {v b b' : List ℕ} {n i : ℕ} (c : Copies v b b' n i) where
   unfolding unbarred
   some_left h =
       below i (length v) (λ k. k) (λ k. absurd (omega (arith, h, length-drop n (unbarred v), ap length (c.left ∙ ap unbarred (drop_of_length-le v k)))))
+
+  -- where no number is left, neither is a symbol
+  pub none_left : length v ≤ i → n ≡ length (unbarred v)
+  none_left h = below n (length (unbarred v)) (λ k. absurd (omega (arith, some_left k))) (λ k. omega (arith, c.few))
 
   -- all are copied
   pub all_copied : n ≡ length (unbarred v) → b' ≡ written b 0 (unbarred v)

@@ -1,5 +1,6 @@
 -- What the checks of the reader and the writer leave where they refuse nothing.
 -- Assumes nothing.
+use Rattle.std.specs.Prelude.{Ok}
 use Prim.Native.Nat.{ℕ, ◌*◌, ◌<◌, ◌≤◌}
 use mathlib.Core.Path.{◌≡◌}
 use mathlib.Core.List.{List}
@@ -11,7 +12,6 @@ use Rattle.rows.specs.Reading.{Accepted}
 use Rattle.rows.specs.Refusals.{◌then◌, as_kept, alphabet, output}
 use Rattle.rows.specs.declared.Leaves.TheVariants.{Symbols}
 use Rattle.rows.specs.declared.Refusal.TheVariants.{Row}
-use Rattle.rows.specs.declared.Check.TheVariants.{Fine}
 use Rattle.rows.proofs.Passing.{both_fine, row_fine, output_fine, both_whole}
 use Rattle.rows.proofs.Scan.{sized_fits}
 use Rattle.bars.specs.Bars.{unbarred, rooted, read_check, write_check}
@@ -26,7 +26,7 @@ pub record Legible (A w : List ℕ) (m : ℕ) : Type 0 where
   pub accepted : Accepted A w
   pub room : 2 * length w ≤ m
 
-pub write_legible : (A w : List ℕ) (m : ℕ) → write_check A w m ≡ Fine → Legible A w m
+pub write_legible : (A w : List ℕ) (m : ℕ) → write_check A w m ≡ Ok tt → Legible A w m
 unfolding write_check reading
 write_legible A w m e =
     let row = as_kept Row (reading A Symbols row_most w) in
@@ -37,7 +37,7 @@ write_legible A w m e =
     let fits = sized_fits (length w) row_most whole.0 in
     record { fine = a.0; some = fits.0; most = fits.1; accepted = whole.1; room = output_fine (2 * length w) m b.1 }
 
-pub write_writable : (A w b : List ℕ) → write_check A w (length b) ≡ Fine → Writable A w b
+pub write_writable : (A w b : List ℕ) → write_check A w (length b) ≡ Ok tt → Writable A w b
 write_writable A w b e =
     let l = write_legible A w (length b) e in
     record { fine = l.fine; accepted = l.accepted; most = l.most; fits = l.room }
@@ -47,10 +47,10 @@ pub record Readable (A v : List ℕ) (m : ℕ) : Type 0 where
   pub fine : Sound A
   pub some : 0 < length v
   pub most : length v ≤ bars_most
-  pub closed : rooted A v ≡ Fine
+  pub closed : rooted A v ≡ Ok tt
   pub room : length (unbarred v) ≤ m
 
-pub read_readable : (A v : List ℕ) (m : ℕ) → read_check A v m ≡ Fine → Readable A v m
+pub read_readable : (A v : List ℕ) (m : ℕ) → read_check A v m ≡ Ok tt → Readable A v m
 unfolding read_check
 read_readable A v m e =
     let size = as_kept Row (sized (length v) bars_most) in

@@ -1,5 +1,6 @@
 -- Where reading stops, and why: at the input's end; or at the first place where the input begins no bar form any more.
 -- Assumes nothing.
+use Rattle.std.specs.Prelude.{Ok, Err}
 use Prim.Native.Nat.{ℕ, zero, suc, ◌+◌, ◌≤◌, ◌<◌}
 use mathlib.Core.Path.{◌≡◌, refl, sym, ap, ◌∙◌, subst}
 use mathlib.Core.List.{List, [], ◌∷◌, ◌++◌, append_assoc, append-nil}
@@ -16,7 +17,6 @@ use Rattle.rows.specs.declared.Kept.TheVariants.{Misread}
 use Rattle.rows.specs.declared.BarsFault.TheVariants.{NothingOpen, Children, Unclosed}
 use Rattle.rows.specs.declared.Refusal.{Refusal}
 use Rattle.rows.specs.declared.Refusal.TheVariants.{Row, Bars}
-use Rattle.rows.specs.declared.Check.TheVariants.{Fine, Refused}
 use Rattle.rows.proofs.Passing.{clash}
 use Rattle.refusal_numbers.specs.Numbers.{place}
 use Rattle.bars.specs.Bars.{IsBars, closing, rooted}
@@ -41,7 +41,7 @@ pub data Why (A w : List ℕ) (y : ℕ) (x : Refusal) : Type 0 where
 -- why the list v is refused: it ends; or at a number, and nothing behind that matters
 pub data Told (A v : List ℕ) (x : Refusal) : Type 0 where
   ended : Begins A v → Bars (Unclosed (length v)) ≡ x → Told A v x
-  fails : (w : List ℕ) (y : ℕ) (u : List ℕ) → w ++ (y ∷ u) ≡ v → Begins A w → ((t : List ℕ) → rooted A (w ++ (y ∷ t)) ≡ Refused x)
+  fails : (w : List ℕ) (y : ℕ) (u : List ℕ) → w ++ (y ∷ u) ≡ v → Begins A w → ((t : List ℕ) → rooted A (w ++ (y ∷ t)) ≡ Err x)
       → Why A w y x → Told A v x
 
 -- the list w is read, and the open nodes lack so many children
@@ -70,7 +70,7 @@ module _ (A : List ℕ) (good : Sound A) where
 
   -- the open nodes can be closed, by leaves where children are lacking
   abbrev Closable : List ℕ → Type 0
-  Closable ks = (u : List ℕ) × ((at : ℕ) → closing A ks at u ≡ Fine)
+  Closable ks = (u : List ℕ) × ((at : ℕ) → closing A ks at u ≡ Ok tt)
 
   close_one : (ks : List ℕ) → Closable ks → (k : ℕ) → Closable (k ∷ ks)
   close_one ks c zero = (bar ∷ c.0, λ at. closing-bar A ks at c.0 ∙ c.1 (at + 1))
@@ -113,15 +113,15 @@ module _ (A : List ℕ) (good : Sound A) where
 
   -- Reading on behind w, where the open nodes lack so many children.
   module _ (x : Refusal) where
-    tell_none : (w v : List ℕ) (y : ℕ) → State A w [] → closing A [] (length w) (y ∷ v) ≡ Refused x → Told A (w ++ (y ∷ v)) x
+    tell_none : (w v : List ℕ) (y : ℕ) → State A w [] → closing A [] (length w) (y ∷ v) ≡ Err x → Told A (w ++ (y ∷ v)) x
     tell_none w v y h e =
-        let made : Refused (Bars (NothingOpen (length w))) ≡ Refused x = sym (closing_none A (length w) y v) ∙ e in
+        let made : Err (Bars (NothingOpen (length w))) ≡ Err x = sym (closing_none A (length w) y v) ∙ e in
         let same : Bars (NothingOpen (length w)) ≡ x = cc in
         fails w y v refl (state_begins w [] h) (λ t. h (y ∷ t) ∙ closing_none A (length w) y t ∙ made) (passed (state_whole A w h) same)
 
     tell_full : (w v ks : List ℕ) (y : ℕ) (b : Bool) → eqb y bar ≡ b → 0 < length w → State A w (0 ∷ ks)
-        → pick b (closing A ks (length w + 1) v) (Refused (Bars (Children (length w)))) ≡ Refused x
-        → (State A (w ++ (y ∷ [])) ks → closing A ks (length (w ++ (y ∷ []))) v ≡ Refused x → Told A ((w ++ (y ∷ [])) ++ v) x)
+        → pick b (closing A ks (length w + 1) v) (Err (Bars (Children (length w)))) ≡ Err x
+        → (State A (w ++ (y ∷ [])) ks → closing A ks (length (w ++ (y ∷ []))) v ≡ Err x → Told A ((w ++ (y ∷ [])) ++ v) x)
         → Told A (w ++ (y ∷ v)) x
     tell_full w v ks y true q some h e on =
         subst (λ (l : List ℕ). Told A l x) (append_assoc w (y ∷ []) v)
@@ -132,8 +132,8 @@ module _ (A : List ℕ) (good : Sound A) where
         (extra some (eqb-false y bar q) (state_bar w ks h) same)
 
     tell_lack : (w v : List ℕ) (k : ℕ) (ks : List ℕ) (y : ℕ) (b c : Bool) → eqb y bar ≡ b → symbol A y ≡ c → 0 < length w → State A w (suc k ∷ ks)
-        → pick b (Refused (Bars (Children (length w)))) (pick c (closing A (get_or A y 0 ∷ (k ∷ ks)) (length w + 1) v) (Refused (Row (Misread (Stray (length w)))))) ≡ Refused x
-        → (State A (w ++ (y ∷ [])) (get_or A y 0 ∷ (k ∷ ks)) → closing A (get_or A y 0 ∷ (k ∷ ks)) (length (w ++ (y ∷ []))) v ≡ Refused x → Told A ((w ++ (y ∷ [])) ++ v) x)
+        → pick b (Err (Bars (Children (length w)))) (pick c (closing A (get_or A y 0 ∷ (k ∷ ks)) (length w + 1) v) (Err (Row (Misread (Stray (length w)))))) ≡ Err x
+        → (State A (w ++ (y ∷ [])) (get_or A y 0 ∷ (k ∷ ks)) → closing A (get_or A y 0 ∷ (k ∷ ks)) (length (w ++ (y ∷ []))) v ≡ Err x → Told A ((w ++ (y ∷ [])) ++ v) x)
         → Told A (w ++ (y ∷ v)) x
     tell_lack w v k ks y true c q r some h e on =
         let same : Bars (Children (length w)) ≡ x = cc in
@@ -147,10 +147,10 @@ module _ (A : List ℕ) (good : Sound A) where
         fails w y v refl (state_begins w (suc k ∷ ks) h) (λ t. h (y ∷ t) ∙ closing_lack A k ks (length w) y t false false q r ∙ e)
         (stray (eqb-false y bar q) (ltb-false y (length A) r) (state_child w k ks h) same)
 
-    tell : (v w ks : List ℕ) → 0 < length w → State A w ks → closing A ks (length w) v ≡ Refused x → Told A (w ++ v) x
+    tell : (v w ks : List ℕ) → 0 < length w → State A w ks → closing A ks (length w) v ≡ Err x → Told A (w ++ v) x
     tell [] w [] some h e = absurd (clash (closing A [] (length w) []) x (closing_done A (length w)) e)
     tell [] w (k ∷ ks) some h e =
-        let made : Refused (Bars (Unclosed (length w))) ≡ Refused x = sym (closing_end A k ks (length w)) ∙ e in
+        let made : Err (Bars (Unclosed (length w))) ≡ Err x = sym (closing_end A k ks (length w)) ∙ e in
         let same : Bars (Unclosed (length w)) ≡ x = cc in
         subst (λ (l : List ℕ). Told A l x) (sym (append-nil w)) (ended (state_begins w (k ∷ ks) h) same)
     tell (y ∷ v) w [] some h e = tell_none w v y h e
@@ -163,7 +163,7 @@ module _ (A : List ℕ) (good : Sound A) where
 
     -- the root
     tell_root : (y : ℕ) (v : List ℕ) (b c : Bool) → eqb y bar ≡ b → symbol A y ≡ c
-        → pick b (Refused (Bars (NothingOpen 0))) (pick c (closing A (get_or A y 0 ∷ []) 1 v) (Refused (Row (Misread (Stray 0))))) ≡ Refused x
+        → pick b (Err (Bars (NothingOpen 0))) (pick c (closing A (get_or A y 0 ∷ []) 1 v) (Err (Row (Misread (Stray 0))))) ≡ Err x
         → Told A (y ∷ v) x
     tell_root y v true c q r e =
         let same : Bars (NothingOpen 0) ≡ x = cc in
@@ -174,7 +174,7 @@ module _ (A : List ℕ) (good : Sound A) where
         fails [] y v refl (begins_before A [] (root_due.0 ∷ []) root_due.2) (λ t. root_here A (y ∷ t) (omega arith) false false q r ∙ e)
         (stray (eqb-false y bar q) (ltb-false y (length A) r) root_due same)
 
-    pub told : (v : List ℕ) → 0 < length v → rooted A v ≡ Refused x → Told A v x
+    pub told : (v : List ℕ) → 0 < length v → rooted A v ≡ Err x → Told A v x
     told [] some e = absurd (omega arith)
     told (y ∷ v) some e =
         tell_root y v (eqb y bar) (symbol A y) refl refl (sym (root_here A (y ∷ v) some (eqb y bar) (symbol A y) refl refl) ∙ e)

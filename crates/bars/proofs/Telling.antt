@@ -1,5 +1,6 @@
 -- What each refusal tells: what is due where it is given.
 -- Assumes nothing.
+use Rattle.std.specs.Prelude.{Ok, Err}
 use Prim.Native.Nat.{ℕ, zero, suc, ◌+◌, ◌≤◌, ◌<◌}
 use mathlib.Core.Path.{◌≡◌, refl, sym, ap, ap₂, ◌∙◌, subst}
 use mathlib.Core.List.{List, [], ◌∷◌, ◌++◌, append_assoc, append-nil}
@@ -17,7 +18,6 @@ use Rattle.rows.specs.declared.Fault.TheVariants.{Stray}
 use Rattle.rows.specs.declared.Kept.TheVariants.{Misread}
 use Rattle.rows.specs.declared.BarsFault.TheVariants.{NothingOpen, Children, Unclosed}
 use Rattle.rows.specs.declared.Refusal.TheVariants.{Row, Bars}
-use Rattle.rows.specs.declared.Check.TheVariants.{Fine, Refused}
 use Rattle.rows.proofs.Passing.{clash}
 use Rattle.rows.proofs.Scan.{drop_more}
 use Rattle.bars.specs.Bars.{bar_form, IsBars, closing, rooted}
@@ -39,21 +39,21 @@ reach_on A ks ks' at y w h r =
     (r.0, λ u. h (w ++ u) ∙ r.1 u ∙ ap (λ (n : ℕ). closing A r.0 n u) far)
 
 reach_full : (A ks : List ℕ) (at y : ℕ) (w u : List ℕ) (b : Bool) → eqb y bar ≡ b
-    → pick b (closing A ks (at + 1) u) (Refused (Bars (Children at))) ≡ Fine → (closing A ks (at + 1) u ≡ Fine → Reach A ks (at + 1) w)
+    → pick b (closing A ks (at + 1) u) (Err (Bars (Children at))) ≡ Ok tt → (closing A ks (at + 1) u ≡ Ok tt → Reach A ks (at + 1) w)
     → Reach A (0 ∷ ks) at (y ∷ w)
 reach_full A ks at y w u true q e on = reach_on A (0 ∷ ks) ks at y w (λ t. closing_full A ks at y t true q) (on e)
 reach_full A ks at y w u false q e on = absurd (clash _ _ e refl)
 
 reach_lack : (A : List ℕ) (k : ℕ) (ks : List ℕ) (at y : ℕ) (w u : List ℕ) (b c : Bool) → eqb y bar ≡ b → symbol A y ≡ c
-    → pick b (Refused (Bars (Children at))) (pick c (closing A (get_or A y 0 ∷ (k ∷ ks)) (at + 1) u) (Refused (Row (Misread (Stray at))))) ≡ Fine
-    → (closing A (get_or A y 0 ∷ (k ∷ ks)) (at + 1) u ≡ Fine → Reach A (get_or A y 0 ∷ (k ∷ ks)) (at + 1) w)
+    → pick b (Err (Bars (Children at))) (pick c (closing A (get_or A y 0 ∷ (k ∷ ks)) (at + 1) u) (Err (Row (Misread (Stray at))))) ≡ Ok tt
+    → (closing A (get_or A y 0 ∷ (k ∷ ks)) (at + 1) u ≡ Ok tt → Reach A (get_or A y 0 ∷ (k ∷ ks)) (at + 1) w)
     → Reach A (suc k ∷ ks) at (y ∷ w)
 reach_lack A k ks at y w u true c q r e on = absurd (clash _ _ e refl)
 reach_lack A k ks at y w u false true q r e on =
     reach_on A (suc k ∷ ks) (get_or A y 0 ∷ (k ∷ ks)) at y w (λ t. closing_lack A k ks at y t false true q r) (on e)
 reach_lack A k ks at y w u false false q r e on = absurd (clash _ _ e refl)
 
-reach : (A w ks : List ℕ) (at : ℕ) (u : List ℕ) → closing A ks at (w ++ u) ≡ Fine → Reach A ks at w
+reach : (A w ks : List ℕ) (at : ℕ) (u : List ℕ) → closing A ks at (w ++ u) ≡ Ok tt → Reach A ks at w
 reach A [] ks at u e = (ks, λ t. ap (λ (n : ℕ). closing A ks n t) (sym (add-zero at)))
 reach A (y ∷ w) [] at u e = absurd (clash _ _ e (closing_none A at y (w ++ u)))
 reach A (y ∷ w) (zero ∷ ks) at u e =
@@ -67,7 +67,7 @@ abbrev ReadUpTo : List ℕ → List ℕ → Type 0
 ReadUpTo A w = (ks : List ℕ) × State A w ks
 
 read_root : (A : List ℕ) (y : ℕ) (w u : List ℕ) (b c : Bool) → eqb y bar ≡ b → symbol A y ≡ c
-    → pick b (Refused (Bars (NothingOpen 0))) (pick c (closing A (get_or A y 0 ∷ []) 1 (w ++ u)) (Refused (Row (Misread (Stray 0))))) ≡ Fine
+    → pick b (Err (Bars (NothingOpen 0))) (pick c (closing A (get_or A y 0 ∷ []) 1 (w ++ u)) (Err (Row (Misread (Stray 0))))) ≡ Ok tt
     → ReadUpTo A (y ∷ w)
 read_root A y w u true c q r e = absurd (clash _ _ e refl)
 read_root A y w u false true q r e =
@@ -84,7 +84,7 @@ read_up_to A (y ∷ w) good some b =
 
 -- what a state excludes
 module _ (A : List ℕ) (good : Sound A) (w : List ℕ) where
-  goes_on : (ks : List ℕ) (y : ℕ) → State A w ks → (b : Begins A (w ++ (y ∷ []))) → closing A ks (length w) (y ∷ b.0) ≡ Fine
+  goes_on : (ks : List ℕ) (y : ℕ) → State A w ks → (b : Begins A (w ++ (y ∷ []))) → closing A ks (length w) (y ∷ b.0) ≡ Ok tt
   goes_on ks y h b =
       sym (h (y ∷ b.0)) ∙ ap (rooted A) (sym (append_assoc w (y ∷ []) b.0)) ∙ rooted_of_bars A ((w ++ (y ∷ [])) ++ b.0) (symbols_most A good) b.1
 
@@ -190,8 +190,8 @@ unfolding bar_form
 some_form A v b = omega (arith, ap length b.reads)
 
 of_over : (A v : List ℕ) (p : ℕ) → Sound A → p < length v → ((p ≡ 0) × (get_or v 0 0 ≡ bar)) ⊎ IsBars A (take p v)
-    → rooted A v ≡ Refused (Bars (NothingOpen p))
-of_over A v p good h (inl z) = root_bar A v (omega arith) z.1 ∙ ap (λ (n : ℕ). Refused (Bars (NothingOpen n))) (sym z.0)
+    → rooted A v ≡ Err (Bars (NothingOpen p))
+of_over A v p good h (inl z) = root_bar A v (omega arith) z.1 ∙ ap (λ (n : ℕ). Err (Bars (NothingOpen n))) (sym z.0)
 of_over A v p good h (inr b) =
     read_at A v p h [] (whole_state A good (take p v) (some_form A (take p v) b) b) ∙ closing_none A p (get_or v p 0) (drop (p + 1) v)
 
@@ -215,7 +215,7 @@ wrong_of A v p (fails w y u s b f (extra n q d e)) =
 wrong_of A v p (fails w y u s b f (stray q l d e)) = let z : ◌≡◌ {A = ℕ} 0 1 = cc in absurd (omega arith)
 
 of_wrong : (A v : List ℕ) (p : ℕ) → Sound A → p < length v → 0 < p
-    → ((get_or v p 0 ≡ bar) × ChildDue A (take p v)) ⊎ ((get_or v p 0 ≡ bar → ⊥) × BarDue A (take p v)) → rooted A v ≡ Refused (Bars (Children p))
+    → ((get_or v p 0 ≡ bar) × ChildDue A (take p v)) ⊎ ((get_or v p 0 ≡ bar → ⊥) × BarDue A (take p v)) → rooted A v ≡ Err (Bars (Children p))
 of_wrong A v p good h some (inl d) =
     let o = child_state A good (take p v) (omega (arith, long A v p h)) d.1 in
     read_at A v p h (suc o.0 ∷ o.1) o.2
@@ -242,7 +242,7 @@ strays_of A v p (fails w y u s b f (stray q l d e)) =
     let here = at_here w y u v s p same in
     (at_below w y u v s p same, λ o. q (sym here ∙ o), omega (arith, here, l), subst (ChildDue A) (at_front w y u v s p same) d)
 
-of_strays : (A v : List ℕ) (p : ℕ) → Sound A → Strays A v p → rooted A v ≡ Refused (Row (Misread (Stray p)))
+of_strays : (A v : List ℕ) (p : ℕ) → Sound A → Strays A v p → rooted A v ≡ Err (Row (Misread (Stray p)))
 of_strays A v zero good d = root_stray A v d.0 d.1 d.2
 of_strays A v (suc p) good d =
     let o = child_state A good (take (suc p) v) (omega (arith, long A v (suc p) d.0)) d.3 in
@@ -263,7 +263,7 @@ open_of A v p (fails w y u s b f (early n q d e)) = let z : ◌≡◌ {A = ℕ} 
 open_of A v p (fails w y u s b f (extra n q d e)) = let z : ◌≡◌ {A = ℕ} 0 1 = cc in absurd (omega arith)
 open_of A v p (fails w y u s b f (stray q l d e)) = let z : ◌≡◌ {A = ℕ} 0 1 = cc in absurd (omega arith)
 
-open_end : (A v ks : List ℕ) → State A v ks → (IsBars A v → ⊥) → rooted A v ≡ Refused (Bars (Unclosed (length v)))
+open_end : (A v ks : List ℕ) → State A v ks → (IsBars A v → ⊥) → rooted A v ≡ Err (Bars (Unclosed (length v)))
 open_end A v [] h n = absurd (n (state_whole A v h))
 open_end A v (k ∷ ks) h n = ap (rooted A) (sym (append-nil v)) ∙ h [] ∙ closing_end A k ks (length v)
 
@@ -274,5 +274,5 @@ ends_open A v p good some = (
       (o.0, o.1, λ b. clash (rooted A v) _ (rooted_of_bars A v (symbols_most A good) b) e),
   λ o.
       let s = read_up_to A v good some o.1 in
-      open_end A v s.0 s.1 o.2 ∙ ap (λ (n : ℕ). Refused (Bars (Unclosed n))) (sym o.0),
+      open_end A v s.0 s.1 o.2 ∙ ap (λ (n : ℕ). Err (Bars (Unclosed n))) (sym o.0),
 )

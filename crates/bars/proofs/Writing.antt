@@ -1,5 +1,6 @@
 -- How the bar form of a row is written, from left to right: what is still to be written, and what a turn of the loop writes.
 -- Assumes nothing.
+use Rattle.std.specs.Prelude.{Ok}
 use Prim.Native.Nat.{ℕ, zero, suc, ◌+◌, ◌-◌, ◌≤◌, ◌<◌}
 use mathlib.Core.Path.{◌≡◌, refl, sym, ap, ap₂, ◌∙◌}
 use mathlib.Core.List.{List, [], ◌∷◌, ◌++◌, append_assoc}
@@ -7,13 +8,12 @@ use native.Mathlib.Nat.{zero-add}
 use native.Mathlib.Omega.{arith}
 use lib.Dec.{ltb→lt}
 use lib.ListN.{length, get_or, take, drop, set, length-drop, length-set}
-use lib.Seq.{take_all, set-set, drop-set-lt}
+use lib.Seq.{take_all, set-set, drop-set-lt, length-take-le}
 use Rattle.rows.specs.Tree.{Forest, Forest.none, count}
 use Rattle.rows.specs.Parse.{first, rest, over, behind}
 use Rattle.rows.specs.Reading.{Accepted}
 use Rattle.rows.specs.Row.{symbol, allowed, verdict}
 use Rattle.rows.specs.declared.Leaves.TheVariants.{Symbols}
-use Rattle.rows.specs.declared.Verdict.TheVariants.{Whole}
 use Rattle.rows.specs.Buffers.{written}
 use Rattle.rows.proofs.Tree.{no_trees, count-rest}
 use Rattle.rows.proofs.Behind.{few-behind, behind-over, count-behind, enough_behind}
@@ -72,7 +72,7 @@ unfolding written
 written_again b v x some = ap (λ (d : List ℕ). v ++ d) (drop-set-lt (0 + length v) b 0 x (omega arith))
 
 -- each number of an accepted row is a symbol
-symbol-first : (A : List ℕ) (s : ℕ) (w : List ℕ) (k at : ℕ) → verdict A (allowed Symbols A) k at (s ∷ w) ≡ Whole → s < length A
+symbol-first : (A : List ℕ) (s : ℕ) (w : List ℕ) (k at : ℕ) → verdict A (allowed Symbols A) k at (s ∷ w) ≡ Ok tt → s < length A
 unfolding verdict
 symbol-first A s w zero at e = let z : ◌≡◌ {A = ℕ} 0 1 = cc in absurd (omega arith)
 symbol-first A s w (suc k) at e = ltb→lt s (length A) (picked (symbol A s) _ at e).0
@@ -190,3 +190,9 @@ module _ (A w l : List ℕ) (depth p at : ℕ) (m : Midway A w l depth p at) (so
 pub all_written : (A w l : List ℕ) (p at : ℕ) → Midway A w l 0 p at → take at (bars_of A w) ≡ bars_of A w
 unfolding lacking due
 all_written A w l p at m = take_all at (bars_of A w) (omega (arith, length-drop at (bars_of A w), ap length m.left))
+
+-- while something is left to write, a node is open
+pub some_open : (A w l : List ℕ) (depth p at : ℕ) → Midway A w l depth p at → at < length (bars_of A w) → 0 < depth
+some_open A w l zero p at m h =
+    absurd (omega (arith, length-take-le at (bars_of A w) (omega arith), ap length (all_written A w l p at m)))
+some_open A w l (suc depth) p at m h = omega arith

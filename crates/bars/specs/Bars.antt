@@ -1,5 +1,5 @@
 -- Prefix bar notation: a node's symbol, its children, then a bar that closes it.
-use Rattle.std.specs.Prelude.{ℕ, zero, suc, ◌+◌, ◌*◌, ◌≡◌, List, [], ◌∷◌, ◌++◌, eqb, length, get_or}
+use Rattle.std.specs.Prelude.{ℕ, zero, suc, ◌+◌, ◌*◌, ◌≡◌, List, [], ◌∷◌, ◌++◌, eqb, length, get_or, Result, Ok, Err, ⊤}
 use Rattle.rows.specs.Limits.{row_most, bars_most, bar}
 use Rattle.rows.specs.Tree.{Forest, Forest.none, Forest.grow, Tree, single, Ranked}
 use Rattle.rows.specs.Parse.{parse}
@@ -11,8 +11,7 @@ use Rattle.rows.specs.declared.Fault.TheVariants.{Stray}
 use Rattle.rows.specs.declared.Kept.TheVariants.{Misread}
 use Rattle.rows.specs.declared.BarsFault.TheVariants.{NothingOpen, Children, Unclosed}
 use Rattle.rows.specs.declared.Refusal.TheVariants.{Row, Bars}
-use Rattle.rows.specs.declared.Check.{Check}
-use Rattle.rows.specs.declared.Check.TheVariants.{Fine, Refused}
+use Rattle.rows.specs.declared.Refusal.{Refusal}
 
 -- each tree's symbol, the bar forms of its children from left to right, and the bar that closes it
 unfoldable pub bar_form : Forest → List ℕ
@@ -38,25 +37,25 @@ unbarred (x ∷ v) = pick (eqb x bar) (unbarred v) (x ∷ unbarred v)
 -- where the input ends and a node is open; 70 where it goes on and none is; where the innermost node lacks no child only the bar
 -- that closes it may stand, else 71; where it lacks one 71 for a bar, 7 for another number that is no symbol, and a symbol
 -- opens a node that lacks all its children.
-unfoldable pub closing : List ℕ → List ℕ → ℕ → List ℕ → Check
-closing A [] at [] = Fine
-closing A (k ∷ ks) at [] = Refused (Bars (Unclosed at))
-closing A [] at (x ∷ v) = Refused (Bars (NothingOpen at))
-closing A (zero ∷ ks) at (x ∷ v) = pick (eqb x bar) (closing A ks (at + 1) v) (Refused (Bars (Children at)))
+unfoldable pub closing : List ℕ → List ℕ → ℕ → List ℕ → Result ⊤ Refusal
+closing A [] at [] = Ok tt
+closing A (k ∷ ks) at [] = Err (Bars (Unclosed at))
+closing A [] at (x ∷ v) = Err (Bars (NothingOpen at))
+closing A (zero ∷ ks) at (x ∷ v) = pick (eqb x bar) (closing A ks (at + 1) v) (Err (Bars (Children at)))
 closing A (suc k ∷ ks) at (x ∷ v) =
-    pick (eqb x bar) (Refused (Bars (Children at)))
-    (pick (symbol A x) (closing A (get_or A x 0 ∷ (k ∷ ks)) (at + 1) v) (Refused (Row (Misread (Stray at)))))
+    pick (eqb x bar) (Err (Bars (Children at)))
+    (pick (symbol A x) (closing A (get_or A x 0 ∷ (k ∷ ks)) (at + 1) v) (Err (Row (Misread (Stray at)))))
 
 -- from the start, where no node is open yet: 70 for a bar, 7 for another number that is no symbol, and a symbol opens the root
-unfoldable pub rooted : List ℕ → List ℕ → Check
-rooted A [] = Refused (Bars (Unclosed 0))
+unfoldable pub rooted : List ℕ → List ℕ → Result ⊤ Refusal
+rooted A [] = Err (Bars (Unclosed 0))
 rooted A (x ∷ v) =
-    pick (eqb x bar) (Refused (Bars (NothingOpen 0)))
-    (pick (symbol A x) (closing A (get_or A x 0 ∷ []) 1 v) (Refused (Row (Misread (Stray 0)))))
+    pick (eqb x bar) (Err (Bars (NothingOpen 0)))
+    (pick (symbol A x) (closing A (get_or A x 0 ∷ []) 1 v) (Err (Row (Misread (Stray 0)))))
 
 -- The reader's refusals, for a row of m places: 1 to 3; 4 for empty input, 5 over 32,768; 70, 71, 7 and 72; 19, where the row
 -- has no room.
-unfoldable pub read_check : List ℕ → List ℕ → ℕ → Check
+unfoldable pub read_check : List ℕ → List ℕ → ℕ → Result ⊤ Refusal
 read_check A v m =
     alphabet (alphabet_of A)
     then as_kept Row (sized (length v) bars_most)
@@ -64,5 +63,5 @@ read_check A v m =
     then output (length (unbarred v)) m
 
 -- WRITING. The refusals, for a bar form in m places: 1 to 3; 4, 5, 7 to 9 of the row; 19, where a form twice as long has no room.
-unfoldable pub write_check : List ℕ → List ℕ → ℕ → Check
+unfoldable pub write_check : List ℕ → List ℕ → ℕ → Result ⊤ Refusal
 write_check A w m = alphabet (alphabet_of A) then as_kept Row (reading A Symbols row_most w) then output (2 * length w) m

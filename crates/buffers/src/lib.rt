@@ -5,52 +5,20 @@ ghost use Rattle.std.specs.Prelude.{◌≡◌, map, ◌+◌, ◌-◌, ◌≤◌,
 ghost use Rattle.rows.specs.Buffers.{written};
 ghost use Rattle.buffers.specs.Shift.{shifted, Shiftable};
 
-// The `len` numbers from `from` on are written anew from `to` on, which is no later.
-fn move_down(b: &mut [u16], from: usize, to: usize, len: usize)
-    requires { (to ≤ from) × (from + len ≤ length b.old) }
-    ensures { b.new ≡ written b.old to (take len (drop from b.old)) }
-{
-    let mut i: usize = 0;
-    while i < len {
-        b[to + i] = b[from + i];
-        i += 1;
-    }
-}
-
-// The `len` numbers from `from` on are written anew from `to` on, which is no earlier.
-fn move_up(b: &mut [u16], from: usize, to: usize, len: usize)
-    requires { (from ≤ to) × (to + len ≤ length b.old) }
-    ensures { b.new ≡ written b.old to (take len (drop from b.old)) }
-{
-    let mut i: usize = len;
-    while 0 < i {
-        i -= 1;
-        b[to + i] = b[from + i];
-    }
-}
-
 // The `len` numbers from `from` on are written anew from `to` on.
 pub fn move_part(b: &mut [u16], from: usize, to: usize, len: usize)
     requires { (from + len ≤ length b.old) × (to + len ≤ length b.old) }
     ensures { b.new ≡ written b.old to (take len (drop from b.old)) }
 {
-    if to < from {
-        move_down(b, from, to, len);
-    } else if from < to {
-        move_up(b, from, to, len);
-    }
+    b.copy_within(from..from + len, to);
 }
 
-// The numbers of `v` are written at the front of `b`.
-pub fn copy_into(b: &mut [u16], v: &[u16])
+// The elements of `v` are written at the front of `b`.
+pub fn copy_into<T: Copy>(b: &mut [T], v: &[T])
     requires { length v.now ≤ length b.old }
     ensures { b.new ≡ written b.old 0 v.now }
 {
-    let mut i: usize = 0;
-    while i < v.len() {
-        b[i] = v[i];
-        i += 1;
-    }
+    b[..v.len()].copy_from_slice(v);
 }
 
 // The number `x` is written at the places from `from` to `to`, none where `to` is no later.
@@ -58,10 +26,8 @@ pub fn fill(b: &mut [u16], from: usize, to: usize, x: u16)
     requires { to ≤ length b.old }
     ensures { b.new ≡ written b.old from (replicate (to - from) x) }
 {
-    let mut i: usize = from;
-    while i < to {
-        b[i] = x;
-        i += 1;
+    if from < to {
+        b[from..to].fill(x);
     }
 }
 
@@ -70,9 +36,7 @@ pub fn shift(b: &mut [u16], at: usize, len: usize, from: u16, to: u16)
     requires { Shiftable b.old at len from to }
     ensures { b.new ≡ written b.old at (map (shifted from to) (take len (drop at b.old))) }
 {
-    let mut i: usize = 0;
-    while i < len {
-        b[at + i] = b[at + i] - from + to;
-        i += 1;
+    for x in &mut b[at..at + len] {
+        *x = *x - from + to;
     }
 }

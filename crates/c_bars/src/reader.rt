@@ -1,165 +1,106 @@
 // The reader, on copies of the lent numbers.
-ghost use Rattle.std.specs.Prelude.{◌*◌, ◌≤◌, min, length};
-ghost use Rattle.rows.specs.Limits.{alphabet_most, bars_most};
+ghost use Rattle.std.specs.Prelude.{◌*◌, ◌≤◌, ◌<◌, length};
+ghost use Rattle.rows.specs.Limits.{alphabet_most};
 ghost use Rattle.wire.specs.Wire.{numbers as numbers_of};
 ghost use Rattle.c_bars.specs.Calls.{BarsReadBytes};
+ghost use Rattle.c_bars.specs.Copies.{Read};
 
-use crate::rooms;
 use c_lent::Answer;
-use rows::{Arities, Check, Refusal};
+use rows::{Arities, Fault, Kept, Refusal};
 
-// The row that the bars spell is gathered in `symbols`, and its bytes are written to `row`. `lacks` is for the open nodes.
+// The row that the bars spell is gathered in `symbols`, and its bytes are written to `row`. `lacks` is for the open nodes. Answers how
+// many symbols the row has.
 fn read_numbers(
     arities: &[u16],
     bars: &[u16],
     lacks: &mut [u8],
     symbols: &mut [u16],
     row: &mut [u8],
-) -> Answer
+) -> Result<usize, Refusal>
     requires { (length bars.now ≤ length lacks.old) × (length bars.now ≤ 2 * length symbols.old) }
-    ensures { BarsReadBytes arities.now bars.now row.old result row.new }
+    ensures { Read arities.now bars.now row.old result row.new }
 {
-    match bars::check_read_in(arities, bars, wire::count(row), lacks) {
-        Check::Refused(r) => c_lent::refusal_of(r),
-        Check::Fine => {
-            let n = bars.len() / 2;
-            bars::copy_symbols(bars, symbols);
-            wire::encode(&symbols[..n], row);
-            Answer {
-                refusal: 0,
-                change: 0,
-                place: 0,
-                count: n as u64,
-            }
-        }
-    }
+    bars::check_read_in(arities, bars, wire::count(row), lacks)?;
+    let n = bars.len() / 2;
+    bars::copy_symbols(bars, symbols);
+    wire::encode(&symbols[..n], row);
+    Ok(n)
 }
 
-// The alphabet and the bars are copied to `a` and `numbers`, once they are known to be within the limits. `lacks` and
-// `symbols` are for the open nodes and for the row.
-fn read_in(
-    arities: &[u8],
+// The same for at most N bars, with room for a row of M symbols. Not inlined, so that a few bars do not pay for a large room.
+#[inline(never)]
+fn read_in<const N: usize, const M: usize>(
+    arities: &[u16],
     bars: &[u8],
     row: &mut [u8],
-    a: &mut [u16],
-    numbers: &mut [u16],
-    lacks: &mut [u8],
-    symbols: &mut [u16],
-) -> Answer
-    requires arities_in_bounds { min alphabet_most (length (numbers_of arities.now)) ≤ length a.old }
-    requires bars_in_bounds { (min bars_most (length (numbers_of bars.now)) ≤ length numbers.old) × (min bars_most (length (numbers_of bars.now)) ≤ length lacks.old) × (min bars_most (length (numbers_of bars.now)) ≤ 2 * length symbols.old) }
-    ensures { BarsReadBytes (numbers_of arities.now) (numbers_of bars.now) row.old result row.new }
+) -> Result<usize, Refusal>
+    requires room { (length (numbers_of bars.now) ≤ N) × (N ≤ 2 * M) }
+    requires small { (N < 65536) × (M < 65536) }
+    ensures { Read arities.now (numbers_of bars.now) row.old result row.new }
+{
+    let mut numbers = [0u16; N];
+    let mut lacks = [0u8; N];
+    let mut symbols = [0u16; M];
+    let n = wire::count(bars);
+    wire::decode(bars, n, &mut numbers);
+    read_numbers(arities, &numbers[..n], &mut lacks, &mut symbols, row)
+}
+
+// The same for any bars: too many are not copied.
+fn read_sized(arities: &[u16], bars: &[u8], row: &mut [u8]) -> Result<usize, Refusal>
+    ensures { Read arities.now (numbers_of bars.now) row.old result row.new }
+{
+    let n = wire::count(bars);
+    if rows::BARS_MOST < n {
+        rows::check_alphabet(arities)?;
+        return Err(Refusal::Row(Kept::Misread(Fault::Long(n))));
+    }
+    // Stays a choice among sizes: a const argument can't be computed, and the memory is fixed.
+    if n <= crate::TINY_FORM {
+        return read_in::<{ crate::TINY_FORM }, { tables::TINY }>(arities, bars, row);
+    }
+    if n <= crate::SHORT_FORM {
+        return read_in::<{ crate::SHORT_FORM }, { tables::SHORT }>(arities, bars, row);
+    }
+    if n <= crate::FAIR_FORM {
+        return read_in::<{ crate::FAIR_FORM }, { tables::FAIR }>(arities, bars, row);
+    }
+    if n <= crate::MIDDLE_FORM {
+        return read_in::<{ crate::MIDDLE_FORM }, { tables::MIDDLE }>(arities, bars, row);
+    }
+    read_in::<{ rows::BARS_MOST }, { rows::ROW_MOST }>(arities, bars, row)
+}
+
+// The same under an alphabet of at most N symbols, lent as bytes.
+fn read_under<const N: usize>(arities: &[u8], bars: &[u8], row: &mut [u8]) -> Result<usize, Refusal>
+    requires room { length (numbers_of arities.now) ≤ N }
+    requires small { N < 65536 }
+    ensures { Read (numbers_of arities.now) (numbers_of bars.now) row.old result row.new }
+{
+    let mut room = [0u16; N];
+    let k = wire::count(arities);
+    wire::decode(arities, k, &mut room);
+    read_sized(&room[..k], bars, row)
+}
+
+// The same under any alphabet: one that is too long is not copied.
+fn read_bytes(arities: &[u8], bars: &[u8], row: &mut [u8]) -> Result<usize, Refusal>
+    ensures { Read (numbers_of arities.now) (numbers_of bars.now) row.old result row.new }
 {
     let k = wire::count(arities);
     if rows::ALPHABET_MOST < k {
-        return c_lent::refusal_of(Refusal::Arities(Arities::Count(k)));
+        return Err(Refusal::Arities(Arities::Count(k)));
     }
-    wire::decode(arities, k, a);
-    let n = wire::count(bars);
-    if rows::BARS_MOST < n {
-        return crate::refuse_long(&a[..k], n);
+    // Stays a choice among sizes: a const argument can't be computed, and the memory is fixed.
+    if k <= wire::SMALL {
+        return read_under::<{ wire::SMALL }>(arities, bars, row);
     }
-    wire::decode(bars, n, numbers);
-    read_numbers(&a[..k], &numbers[..n], lacks, symbols, row)
-}
-
-// Rooms for bars that are not short, up to any length. Bars over the limit are refused in the largest.
-fn read_long(arities: &[u8], bars: &[u8], row: &mut [u8], a: &mut [u16]) -> Answer
-    requires { min alphabet_most (length (numbers_of arities.now)) ≤ length a.old }
-    ensures { BarsReadBytes (numbers_of arities.now) (numbers_of bars.now) row.old result row.new }
-{
-    let n = wire::count(bars);
-    if n <= rooms::FAIR_FORM {
-        let mut numbers = rooms::fair_form();
-        let mut lacks = rooms::fair_lacks();
-        let mut symbols = tables::fair_room();
-        return read_in(
-            arities,
-            bars,
-            row,
-            a,
-            &mut numbers,
-            &mut lacks,
-            &mut symbols,
-        );
-    }
-    if n <= rooms::MIDDLE_FORM {
-        let mut numbers = rooms::middle_form();
-        let mut lacks = rooms::middle_lacks();
-        let mut symbols = tables::middle_room();
-        return read_in(
-            arities,
-            bars,
-            row,
-            a,
-            &mut numbers,
-            &mut lacks,
-            &mut symbols,
-        );
-    }
-    let mut numbers = rooms::long_form();
-    let mut lacks = rooms::long_lacks();
-    let mut symbols = tables::long_room();
-    read_in(
-        arities,
-        bars,
-        row,
-        a,
-        &mut numbers,
-        &mut lacks,
-        &mut symbols,
-    )
-}
-
-// Rooms for tiny and for short bars. The function that makes larger rooms is called from two places: so the compiler keeps these out
-// of the stack of a call on short bars.
-fn read_sized(arities: &[u8], bars: &[u8], row: &mut [u8], a: &mut [u16]) -> Answer
-    requires { min alphabet_most (length (numbers_of arities.now)) ≤ length a.old }
-    ensures { BarsReadBytes (numbers_of arities.now) (numbers_of bars.now) row.old result row.new }
-{
-    let n = wire::count(bars);
-    if rooms::MIDDLE_FORM < n {
-        return read_long(arities, bars, row, a);
-    }
-    if rooms::SHORT_FORM < n {
-        return read_long(arities, bars, row, a);
-    }
-    if n <= rooms::TINY_FORM {
-        let mut numbers = rooms::tiny_form();
-        let mut lacks = rooms::tiny_lacks();
-        let mut symbols = tables::tiny_room();
-        return read_in(
-            arities,
-            bars,
-            row,
-            a,
-            &mut numbers,
-            &mut lacks,
-            &mut symbols,
-        );
-    }
-    let mut numbers = rooms::short_form();
-    let mut lacks = rooms::short_lacks();
-    let mut symbols = tables::short_room();
-    read_in(
-        arities,
-        bars,
-        row,
-        a,
-        &mut numbers,
-        &mut lacks,
-        &mut symbols,
-    )
+    read_under::<{ rows::ALPHABET_MOST }>(arities, bars, row)
 }
 
 // Reads bars: the bytes of the row that they spell at the front of `row`, later bytes stay; or the first refusal, which writes nothing.
 pub fn read(arities: &[u8], bars: &[u8], row: &mut [u8]) -> Answer
     ensures { BarsReadBytes (numbers_of arities.now) (numbers_of bars.now) row.old result row.new }
 {
-    if wire::count(arities) <= wire::SMALL {
-        let mut a = wire::small_room();
-        return read_sized(arities, bars, row, &mut a);
-    }
-    let mut a = wire::alphabet_room();
-    read_sized(arities, bars, row, &mut a)
+    Answer::from(read_bytes(arities, bars, row))
 }

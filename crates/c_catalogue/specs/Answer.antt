@@ -1,11 +1,8 @@
 -- How answers on catalogue files cross to C: the numbers of the answer's struct, for each answer of the Rattle calls.
-use Rattle.std.specs.Prelude.{ℕ}
+use Rattle.std.specs.Prelude.{ℕ, Result, Ok, Err}
 use Rattle.refusal_numbers.specs.Numbers.{number, place, programme}
 use Rattle.rows.specs.declared.Refusal.{Refusal}
 use Rattle.catalogue_read.specs.declared.Opened.{Opened}
-use Rattle.catalogue_read.specs.declared.Opened.TheVariants.{Holds, Refused as Unread}
-use Rattle.catalogue_write.specs.declared.Filed.{Filed}
-use Rattle.catalogue_write.specs.declared.Filed.TheVariants.{Bytes, Refused as Unfiled}
 use Rattle.c_catalogue.specs.declared.CatalogueAnswer.{CatalogueAnswer}
 
 -- nothing is refused: a count
@@ -17,11 +14,11 @@ abbrev pub refused : Refusal → CatalogueAnswer
 refused r = record { refusal = number r; programme = programme r; place = place r; count = 0 }
 
 -- read: the count is the number of the programmes
-abbrev pub read_answer : Opened → CatalogueAnswer
-read_answer (Holds n s) = granted n
-read_answer (Unread r) = refused r
+abbrev pub read_answer : Result Opened Refusal → CatalogueAnswer
+read_answer (Ok o) = granted o.programmes
+read_answer (Err r) = refused r
 
 -- write: the count is the size of the file
-abbrev pub write_answer : Filed → CatalogueAnswer
-write_answer (Bytes n) = granted n
-write_answer (Unfiled r) = refused r
+abbrev pub write_answer : Result ℕ Refusal → CatalogueAnswer
+write_answer (Ok n) = granted n
+write_answer (Err r) = refused r

@@ -1,5 +1,6 @@
 -- Replace on copies: they are changed as the row, its table and its classes are to be, and as much of them is written back as can have changed.
 -- Assumes nothing.
+use Rattle.std.specs.Prelude.{Result, Ok, Err, ⊤}
 use Prim.Native.Nat.{ℕ, ◌+◌, ◌-◌, ◌≤◌, min, max}
 use mathlib.Core.Path.{◌≡◌, refl, sym, ap, ap₂, subst, ◌∙◌}
 use mathlib.Core.List.{List, ◌++◌, append_assoc}
@@ -15,8 +16,6 @@ use Rattle.rows.specs.Tree.{Forest, size, prefix, ends}
 use Rattle.rows.specs.Classes.{classes_of}
 use Rattle.rows.specs.Refusals.{◌then◌, given, replacement, position, grown}
 use Rattle.rows.specs.declared.Refusal.{Refusal}
-use Rattle.rows.specs.declared.Check.{Check}
-use Rattle.rows.specs.declared.Check.TheVariants.{Fine, Refused}
 use Rattle.rows.proofs.Tree.{length-prefix, length-ends}
 use Rattle.rows.proofs.Alike.{length-classes}
 use Rattle.tables.specs.Given.{Right, Classed}
@@ -30,24 +29,22 @@ use Rattle.checks.proofs.Replacing.{given_held, place-behind, replace_held, repl
 use Rattle.wire.specs.Wire.{numbers, bytes_of, Bytes}
 use Rattle.wire.proofs.Numbers.{written_again}
 use Rattle.sparrowhem.specs.Edit.{new_tree, holding}
-use Rattle.sparrowhem.specs.declared.edit.Replaced.TheVariants.{Done, Refused as Unreplaced}
-use Rattle.c_lent.specs.Answer.{granted, refused}
+use Rattle.c_lent.specs.Answer.{granted, replace_answer}
 use Rattle.c_lent.specs.Lent.{Lent, AreBytes, numbers_of}
 use Rattle.c_lent.specs.Calls.{ReplacedBytes}
-use Rattle.c_lent.specs.declared.Answer.{Answer}
 use Rattle.c_lent.proofs.Lists.{same_lent, rewritten_same}
 use Rattle.c_copied.specs.Copies.{Copied}
 
 -- a replacement that is refused leaves the bytes
-pub replaced_refused : (a : Alphabet) (b : Lent) (n : ℕ) (v : List ℕ) (p : ℕ) → AreBytes b → (r : Answer) (x : Refusal)
-    → replace_check a (numbers_of b) n v p ≡ Refused x → r ≡ refused x → ReplacedBytes a b n v p r b
-replaced_refused a b n v p small r x e z =
+pub replaced_refused : (a : Alphabet) (b : Lent) (n : ℕ) (v : List ℕ) (p : ℕ) → AreBytes b → (r : Result (ℕ × ℤ) Refusal) (x : Refusal)
+    → r ≡ Err x → replace_check a (numbers_of b) n v p ≡ Err x → ReplacedBytes a b n v p (replace_answer r) b
+replaced_refused a b n v p small r x z e =
     let P : Programme = numbers_of b in
     record {
-      outcome = Unreplaced x;
+      outcome = Err x;
       left = P;
-      call = record { answer = simp e; lists = sym (ap (λ (q : Check). after q (holding P n (new_tree a P n v p)) P) e) };
-      answer = z;
+      call = record { answer = simp e; lists = sym (ap (λ (q : Result ⊤ Refusal). after q (holding P n (new_tree a P n v p)) P) e) };
+      answer = ap replace_answer z;
       bytes = sym (rewritten_same b small);
     }
 
@@ -77,16 +74,16 @@ module _ (a : Alphabet) (P : Programme) (n : ℕ) (w t k : List ℕ) (c : Copied
   copy_held = record { some = h.some; most = h.most; fits = fits; order = record { row = copy_right; classed = copy_classed } }
 
   -- refusals 24 to 29, 17 and 18, told by the copy of the table
-  pub copy_decides : (v : List ℕ) (p : ℕ) → given a P n ≡ Fine
+  pub copy_decides : (v : List ℕ) (p : ℕ) → given a P n ≡ Ok tt
       → replace_check a P n v p ≡ replacement a.arities v then position n p then grown (p + length v + (n - get_or t p 0)) (room P)
   unfolding replace_check
   copy_decides v p e =
-      ap (λ (g : Check). g then replacement a.arities v then position n p then grown (size (new_tree a P n v p)) (room P)) e
+      ap (λ (g : Result ⊤ Refusal). g then replacement a.arities v then position n p then grown (size (new_tree a P n v p)) (room P)) e
       ∙ ap (λ (l : List ℕ). replacement a.arities v then position n p then grown (size (changed a.arities l p v)) (room P)) (sym c.row)
       ∙ sym (place-behind a (programme w t k) n v p (room P) copy_held)
 
   -- the copies can be changed
-  module _ (v : List ℕ) (p : ℕ) (e : replace_check a P n v p ≡ Fine) where
+  module _ (v : List ℕ) (p : ℕ) (e : replace_check a P n v p ≡ Ok tt) where
     abbrev A : List ℕ
     A = a.arities
 
@@ -134,7 +131,7 @@ back b w new n x small h k =
 
 -- a replacement that refuses nothing: the copies as they are left, and their fronts written back
 pub replaced_done : (a : Alphabet) (b : Lent) (n : ℕ) (v : List ℕ) (p : ℕ) → AreBytes b → (w t k w' t' k' : List ℕ) (m : ℕ) (d : ℤ) → Copied (numbers_of b) n w t k
-    → replace_check a (numbers_of b) n v p ≡ Fine → Replacing a.arities w t n v p w' t' m → Reclassing a.arities w k n v p k' → d ≡ pos m -ℤ pos n → (b' : Lent)
+    → replace_check a (numbers_of b) n v p ≡ Ok tt → Replacing a.arities w t n v p w' t' m → Reclassing a.arities w k n v p k' → d ≡ pos m -ℤ pos n → (b' : Lent)
     → b'.row ≡ written b.row 0 (bytes_of (take (max n m) w')) → b'.table ≡ written b.table 0 (bytes_of (take (max n m) t'))
     → b'.classes ≡ written b.classes 0 (bytes_of (take (max n m) k')) → ReplacedBytes a b n v p (granted m d) b'
 replaced_done a b n v p small w t k w' t' k' m d c e now named by b' row_now table_now classes_now =
@@ -156,11 +153,11 @@ replaced_done a b n v p small w t k w' t' k' m d c e now named by b' row_now tab
     ∙ ap₂ (λ (i : ℕ) (g : List ℕ). written y 0 (bytes_of (take (max n i) g))) (m-is ∙ sym long) is
     ∙ back y l new n x bytes old (omega (arith, long)) in
     record {
-      outcome = Done m d;
+      outcome = Ok (m, d);
       left = holding P n f;
       call = record {
-        answer = simp e (ap (Done m) by ∙ ap (λ (k : ℕ). Done k (pos k -ℤ pos n)) m-is);
-        lists = sym (ap (λ (q : Check). after q (holding P n f) P) e);
+        answer = simp e (ap (λ (x : ℤ). Ok (m, x)) by ∙ ap (λ (k : ℕ). Ok (k, (pos k -ℤ pos n))) m-is);
+        lists = sym (ap (λ (q : Result ⊤ Refusal). after q (holding P n f) P) e);
       };
       answer = refl;
       bytes =

@@ -1,59 +1,73 @@
 // Copies of lent numbers.
-ghost use Rattle.std.specs.Prelude.{◌≤◌, min, length};
+ghost use Rattle.std.specs.Prelude.{◌≡◌, ◌≤◌, min, length, take};
 ghost use Rattle.rows.specs.Limits.{alphabet_most, row_most};
-ghost use Rattle.rows.specs.Programme.{room as places};
+ghost use Rattle.rows.specs.Programme.{programme, programme_of, room as places};
 ghost use Rattle.wire.specs.Wire.{numbers};
 ghost use Rattle.c_copied.specs.Copies.{Copied, Read};
-ghost use Rattle.c_lent.specs.Lent.{lent, numbers_of};
+ghost use Rattle.c_lent.specs.Lent.{lent_of, numbers_of};
 
-use rows::{Check, Keeping, Refusal};
+use c_lent::Lent;
+use rows::{Programme, Refusal};
 
-// The first n numbers of a row, of its table and of its classes, at the front of `w`, `t` and `c`.
-pub fn copy_kept(
-    row: &[u8],
-    table: &[u8],
-    classes: &[u8],
-    n: usize,
-    w: &mut [u16],
-    t: &mut [u16],
-    c: &mut [u16],
-)
-    requires { (n ≤ places (numbers_of (lent row.now table.now classes.now))) × (n ≤ length w.old) × (n ≤ length t.old) × (n ≤ length c.old) }
-    ensures { Copied (numbers_of (lent row.now table.now classes.now)) n w.new t.new c.new }
-{
-    wire::decode(row, n, w);
-    wire::decode(table, n, t);
-    wire::decode(classes, n, c);
+// Rooms for a row of at most N symbols, for its table and for its classes.
+#[derive(Drop)]
+pub struct Copies<const N: usize> {
+    pub row: [u16; N],
+    pub table: [u16; N],
+    pub classes: [u16; N],
+}
+
+impl<const N: usize> Copies<N> {
+    // Nothing is copied yet.
+    pub fn new() -> Self {
+        Self {
+            row: [0u16; N],
+            table: [0u16; N],
+            classes: [0u16; N],
+        }
+    }
+
+    // Copies the first n numbers of each list to the front of its room.
+    pub fn copy(&mut self, lent: Lent, n: usize)
+        requires { (n ≤ places (numbers_of (lent_of lent))) × (n ≤ N) }
+        ensures copied { Copied (numbers_of (lent_of lent.entry)) n self.new.row self.new.table self.new.classes }
+        ensures long { (N ≡ length self.new.row) × (N ≡ length self.new.table) × (N ≡ length self.new.classes) }
+    {
+        wire::decode(lent.row, n, &mut self.row);
+        wire::decode(lent.table, n, &mut self.table);
+        wire::decode(lent.classes, n, &mut self.classes);
+    }
+
+    // The first n places of each room.
+    pub fn programme(&self, n: usize) -> Programme<'_>
+        requires { n ≤ N }
+        ensures { programme_of result ≡ programme (take n self.now.row) (take n self.now.table) (take n self.now.classes) }
+    {
+        Programme {
+            row: &self.row[..n],
+            table: &self.table[..n],
+            classes: &self.classes[..n],
+        }
+    }
 }
 
 // Refusals 1 to 10, then 62. Where there is none, the alphabet stands at the front of `a`, and the row, its table and its classes, as far
-// as the row goes, at the front of `w`, `t` and `c`. `room` is for what the check keeps beside them. Nothing is copied before its size is
+// as the row goes, at the fronts of the copies. `room` is for what the check keeps beside them. Nothing is copied before its size is
 // known to be within the limits.
-pub fn read_given(
+pub fn read_given<const N: usize>(
     arities: &[u8],
-    row: &[u8],
-    table: &[u8],
-    classes: &[u8],
+    lent: Lent,
     a: &mut [u16],
-    w: &mut [u16],
-    t: &mut [u16],
-    c: &mut [u16],
+    copies: &mut Copies<N>,
     room: &mut [u16],
-) -> Check
+) -> Result<(), Refusal>
     requires arities_in_bounds { min alphabet_most (length (numbers arities.now)) ≤ length a.old }
-    requires row_in_bounds { (min row_most (length (numbers row.now)) ≤ length w.old) × (min row_most (length (numbers row.now)) ≤ length t.old) × (min row_most (length (numbers row.now)) ≤ length c.old) × (min row_most (length (numbers row.now)) ≤ length room.old) }
-    ensures { Read (numbers arities.now) (numbers_of (lent row.now table.now classes.now)) result a.new w.new t.new c.new }
+    requires row_in_bounds { (min row_most (length (numbers lent.row.now)) ≤ N) × (min row_most (length (numbers lent.row.now)) ≤ length room.old) }
+    ensures { Read (numbers arities.now) (numbers_of (lent_of lent.entry)) result a.new copies.new.row copies.new.table copies.new.classes }
 {
-    let n = wire::count(row);
-    let places = rows::shortest(n, wire::count(table), wire::count(classes));
-    let sizes = c_lent::read_sizes(arities, a, n, places);
-    let Check::Fine = sizes else {
-        return sizes;
-    };
-    copy_kept(row, table, classes, n, w, t, c);
+    let n = wire::count(lent.row);
+    c_lent::read_sizes(arities, a, n, lent.room())?;
+    copies.copy(lent, n);
     let k = wire::count(arities);
-    match checks::check_beside(&a[..k], &w[..n], &t[..n], &c[..n], room) {
-        Keeping::Unsound(x) => Check::Refused(Refusal::Row(x)),
-        Keeping::Sound => Check::Fine,
-    }
+    checks::check_beside(&a[..k], copies.programme(n), room).map_err(Refusal::Row)
 }

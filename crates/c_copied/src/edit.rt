@@ -1,38 +1,28 @@
 // Replace on copies of the lent numbers.
-ghost use Rattle.std.specs.Prelude.{◌≡◌, ◌+◌, ◌≤◌, min, max, length};
+ghost use Rattle.std.specs.Prelude.{◌≡◌, ◌+◌, ◌≤◌, min, length, Ok};
 ghost use Rattle.rows.specs.Limits.{alphabet_most, row_most};
 ghost use Rattle.rows.specs.Programme.{alphabet_of, room as places};
 ghost use Rattle.rows.specs.Refusals.{given};
-ghost use Rattle.rows.specs.declared.Check.TheVariants.{Fine};
+ghost use Rattle.classes.specs.Lasts.{few_heads};
 ghost use Rattle.checks.specs.Checks.{replace_check};
 ghost use Rattle.wire.specs.Wire.{numbers};
-ghost use Rattle.c_copied.specs.Copies.{fair, Copied, Rooms};
+ghost use Rattle.c_copied.specs.Copies.{Copied, Rooms};
+ghost use Rattle.c_lent.specs.Answer.{replace_answer};
 ghost use Rattle.c_lent.specs.Lent.{lent, numbers_of};
 ghost use Rattle.c_lent.specs.Calls.{ReplacedBytes};
 ghost use Rattle.c_lent.specs.Reading.{sizes_check};
 
-use c_lent::Answer;
-use rows::{Check, Fault, Keeping, Refusal};
+use crate::copies::Copies;
+use c_lent::{Answer, Lent};
+use edits::Buffers;
+use rows::{Fault, Refusal};
 
 // Room for a row of fair length with a small replacement in it.
 const FAIR: usize = tables::FAIR + 128;
 
-fn fair_room() -> [u16; FAIR]
-    ensures { fair ≡ length result }
-{
-    [0u16; FAIR]
-}
-
-// The longer of two lengths.
-fn longer(a: usize, b: usize) -> usize
-    ensures { result ≡ max a b }
-{
-    if a < b { b } else { a }
-}
-
-// The replacement in the copies `w`, `t` and `c`, which begin with the row, its table and its classes. Their bytes are written back
-// as far as one of the two rows goes, the old one or the new.
-fn write_replaced(
+// The replacement in the copies, which begin with the row, its table and its classes. Their bytes are written back as far as one of
+// the two rows goes, the old one or the new. The answer is the new length, and the change in length.
+fn write_replaced<const N: usize>(
     arities: &[u16],
     row: &mut [u8],
     table: &mut [u8],
@@ -40,30 +30,31 @@ fn write_replaced(
     n: usize,
     v: &[u16],
     p: usize,
-    w: &mut [u16],
-    t: &mut [u16],
-    c: &mut [u16],
+    copies: &mut Copies<N>,
     room: &mut [u16],
-) -> Answer
-    requires p_value { replace_check (alphabet_of arities.now) (numbers_of (lent row.old table.old classes.old)) n v.now p ≡ Fine }
-    requires copied { Copied (numbers_of (lent row.old table.old classes.old)) n w.old t.old c.old × Rooms n (length v.now) w.old t.old c.old v.now room.old }
-    ensures { ReplacedBytes (alphabet_of arities.now) (lent row.old table.old classes.old) n v.now p result (lent row.new table.new classes.new) }
+) -> Result<(usize, i32), Refusal>
+    requires n_bound { N ≤ row_most }
+    requires p_value { replace_check (alphabet_of arities.now) (numbers_of (lent row.old table.old classes.old)) n v.now p ≡ Ok tt }
+    requires copied { Copied (numbers_of (lent row.old table.old classes.old)) n copies.old.row copies.old.table copies.old.classes × Rooms n (length v.now) copies.old.row copies.old.table copies.old.classes v.now room.old }
+    ensures { ReplacedBytes (alphabet_of arities.now) (lent row.old table.old classes.old) n v.now p (replace_answer result) (lent row.new table.new classes.new) }
 {
-    let length = edits::replace_beside(arities, w, t, c, n, v, p, room);
-    let most = longer(n, length);
-    wire::encode(&w[..most], row);
-    wire::encode(&t[..most], table);
-    wire::encode(&c[..most], classes);
-    Answer {
-        refusal: 0,
-        change: edits::change(length, n),
-        place: 0,
-        count: length as u64,
-    }
+    let mut changed = Buffers {
+        row: &mut copies.row,
+        table: &mut copies.table,
+        classes: &mut copies.classes,
+    };
+    let length = edits::replace_beside(arities, &mut changed, n, v, p, room);
+    let most = n.max(length);
+    wire::encode(&changed.row[..most], row);
+    wire::encode(&changed.table[..most], table);
+    wire::encode(&changed.classes[..most], classes);
+    Ok((length, edits::change(length, n)))
 }
 
 // The replacement is copied to `v` and checked, once row, table and classes are found right.
-fn replace_by(
+// Stays three buffers: that each of its bytes is under 256 is known of a list that is lent by itself; of three that are fields of a value
+// lent as `&mut` the proof of it (`Bytes`, which `AreBytes` asks of each) did not close.
+fn replace_by<const N: usize>(
     arities: &[u16],
     row: &mut [u8],
     table: &mut [u8],
@@ -71,31 +62,34 @@ fn replace_by(
     n: usize,
     replacement: &[u8],
     p: usize,
-    w: &mut [u16],
-    t: &mut [u16],
-    c: &mut [u16],
+    copies: &mut Copies<N>,
     v: &mut [u16],
     room: &mut [u16],
-) -> Answer
-    requires n_value { given (alphabet_of arities.now) (numbers_of (lent row.old table.old classes.old)) n ≡ Fine }
-    requires copied { Copied (numbers_of (lent row.old table.old classes.old)) n w.old t.old c.old × Rooms n (length (numbers replacement.now)) w.old t.old c.old v.old room.old }
-    ensures { ReplacedBytes (alphabet_of arities.now) (lent row.old table.old classes.old) n (numbers replacement.now) p result (lent row.new table.new classes.new) }
+) -> Result<(usize, i32), Refusal>
+    requires n_bound { N ≤ row_most }
+    requires n_value { given (alphabet_of arities.now) (numbers_of (lent row.old table.old classes.old)) n ≡ Ok tt }
+    requires copied { Copied (numbers_of (lent row.old table.old classes.old)) n copies.old.row copies.old.table copies.old.classes × Rooms n (length (numbers replacement.now)) copies.old.row copies.old.table copies.old.classes v.old room.old }
+    ensures { ReplacedBytes (alphabet_of arities.now) (lent row.old table.old classes.old) n (numbers replacement.now) p (replace_answer result) (lent row.new table.new classes.new) }
 {
     let m = wire::count(replacement);
     if rows::ROW_MOST < m {
-        return c_lent::refusal_of(Refusal::Replacement(Fault::Long(m)));
+        return Err(Refusal::Replacement(Fault::Long(m)));
     }
     wire::decode(replacement, m, v);
-    let places = rows::shortest(wire::count(row), wire::count(table), wire::count(classes));
-    match checks::check_replacement(arities, t, n, &v[..m], p, places) {
-        Check::Refused(r) => c_lent::refusal_of(r),
-        Check::Fine => write_replaced(arities, row, table, classes, n, &v[..m], p, w, t, c, room),
+    let places = Lent {
+        row,
+        table,
+        classes,
     }
+    .room();
+    checks::check_replacement(arities, &copies.table, n, &v[..m], p, places)?;
+    write_replaced(arities, row, table, classes, n, &v[..m], p, copies, room)
 }
 
-// The copies `w`, `t` and `c` begin with the row, its table and its classes, and are checked. `v` and `room` are for the replacement
-// and what the call keeps beside them.
-fn replace_in(
+// Row, table and classes are copied to rooms of N places and checked. One room of R places is for what the call keeps beside them.
+// It stays a function of its own, so that a call on a short row has no room for a longer one on its stack.
+#[inline(never)]
+fn replace_in<const N: usize, const R: usize>(
     arities: &[u16],
     row: &mut [u8],
     table: &mut [u8],
@@ -103,78 +97,24 @@ fn replace_in(
     n: usize,
     replacement: &[u8],
     p: usize,
-    w: &mut [u16],
-    t: &mut [u16],
-    c: &mut [u16],
-    v: &mut [u16],
-    room: &mut [u16],
-) -> Answer
-    requires classes_value { sizes_check (alphabet_of arities.now) n (places (numbers_of (lent row.old table.old classes.old))) ≡ Fine }
-    requires copied { Copied (numbers_of (lent row.old table.old classes.old)) n w.old t.old c.old × Rooms n (length (numbers replacement.now)) w.old t.old c.old v.old room.old }
-    ensures { ReplacedBytes (alphabet_of arities.now) (lent row.old table.old classes.old) n (numbers replacement.now) p result (lent row.new table.new classes.new) }
+) -> Result<(usize, i32), Refusal>
+    requires n_value { sizes_check (alphabet_of arities.now) n (places (numbers_of (lent row.old table.old classes.old))) ≡ Ok tt }
+    requires rooms { (R ≤ row_most) × (min row_most (n + length (numbers replacement.now)) ≤ N) × (N ≤ R) × (few_heads ≤ R) }
+    ensures { ReplacedBytes (alphabet_of arities.now) (lent row.old table.old classes.old) n (numbers replacement.now) p (replace_answer result) (lent row.new table.new classes.new) }
 {
-    match checks::check_beside(arities, &w[..n], &t[..n], &c[..n], room) {
-        Keeping::Unsound(k) => c_lent::refusal_of(Refusal::Row(k)),
-        Keeping::Sound => replace_by(
-            arities,
+    let mut copies = Copies::<N>::new();
+    let mut v = [0u16; N];
+    let mut room = [0u16; R];
+    copies.copy(
+        Lent {
             row,
             table,
             classes,
-            n,
-            replacement,
-            p,
-            w,
-            t,
-            c,
-            v,
-            room,
-        ),
-    }
-}
-
-// Rooms for a row that is of fair length with the replacement in it, or for any.
-fn replace_long(
-    arities: &[u16],
-    row: &mut [u8],
-    table: &mut [u8],
-    classes: &mut [u8],
-    n: usize,
-    replacement: &[u8],
-    p: usize,
-) -> Answer
-    requires { sizes_check (alphabet_of arities.now) n (places (numbers_of (lent row.old table.old classes.old))) ≡ Fine }
-    ensures { ReplacedBytes (alphabet_of arities.now) (lent row.old table.old classes.old) n (numbers replacement.now) p result (lent row.new table.new classes.new) }
-{
-    let m = rows::shorter(wire::count(replacement), rows::ROW_MOST);
-    if n + m <= FAIR {
-        let mut w = fair_room();
-        let mut t = fair_room();
-        let mut c = fair_room();
-        let mut v = fair_room();
-        let mut room = fair_room();
-        crate::copies::copy_kept(row, table, classes, n, &mut w, &mut t, &mut c);
-        return replace_in(
-            arities,
-            row,
-            table,
-            classes,
-            n,
-            replacement,
-            p,
-            &mut w,
-            &mut t,
-            &mut c,
-            &mut v,
-            &mut room,
-        );
-    }
-    let mut w = tables::long_room();
-    let mut t = tables::long_room();
-    let mut c = tables::long_room();
-    let mut v = tables::long_room();
-    let mut room = tables::long_room();
-    crate::copies::copy_kept(row, table, classes, n, &mut w, &mut t, &mut c);
-    replace_in(
+        },
+        n,
+    );
+    checks::check_beside(arities, copies.programme(n), &mut room).map_err(Refusal::Row)?;
+    replace_by(
         arities,
         row,
         table,
@@ -182,15 +122,14 @@ fn replace_long(
         n,
         replacement,
         p,
-        &mut w,
-        &mut t,
-        &mut c,
+        &mut copies,
         &mut v,
         &mut room,
     )
 }
 
-// Rooms for a row that is short with the replacement in it. A replacement over its limit is refused in any room.
+// Rooms for a row that is short with the replacement in it, for one that is of fair length then, or for any. A replacement over its limit
+// is refused in any room.
 fn replace_sized(
     arities: &[u16],
     row: &mut [u8],
@@ -199,24 +138,27 @@ fn replace_sized(
     n: usize,
     replacement: &[u8],
     p: usize,
-) -> Answer
-    requires { sizes_check (alphabet_of arities.now) n (places (numbers_of (lent row.old table.old classes.old))) ≡ Fine }
-    ensures { ReplacedBytes (alphabet_of arities.now) (lent row.old table.old classes.old) n (numbers replacement.now) p result (lent row.new table.new classes.new) }
+) -> Result<(usize, i32), Refusal>
+    requires { sizes_check (alphabet_of arities.now) n (places (numbers_of (lent row.old table.old classes.old))) ≡ Ok tt }
+    ensures { ReplacedBytes (alphabet_of arities.now) (lent row.old table.old classes.old) n (numbers replacement.now) p (replace_answer result) (lent row.new table.new classes.new) }
 {
-    let m = wire::count(replacement);
-    if rows::ROW_MOST < m {
-        return replace_long(arities, row, table, classes, n, replacement, p);
+    let most = n + wire::count(replacement).min(rows::ROW_MOST);
+    // Stays a choice among sizes: a const argument can't be computed, and the memory is fixed.
+    if most <= tables::SHORT {
+        return replace_in::<{ tables::SHORT }, { classes::FEW }>(
+            arities,
+            row,
+            table,
+            classes,
+            n,
+            replacement,
+            p,
+        );
     }
-    if tables::SHORT < n + m {
-        return replace_long(arities, row, table, classes, n, replacement, p);
+    if most <= FAIR {
+        return replace_in::<{ FAIR }, { FAIR }>(arities, row, table, classes, n, replacement, p);
     }
-    let mut w = tables::short_room();
-    let mut t = tables::short_room();
-    let mut c = tables::short_room();
-    let mut v = tables::short_room();
-    let mut room = classes::few_heads();
-    crate::copies::copy_kept(row, table, classes, n, &mut w, &mut t, &mut c);
-    replace_in(
+    replace_in::<{ rows::ROW_MOST }, { rows::ROW_MOST }>(
         arities,
         row,
         table,
@@ -224,16 +166,11 @@ fn replace_sized(
         n,
         replacement,
         p,
-        &mut w,
-        &mut t,
-        &mut c,
-        &mut v,
-        &mut room,
     )
 }
 
-// The alphabet is read to `a`, a room that is lent for it.
-fn replace_under(
+// Room for an alphabet of at most N symbols.
+fn replace_under<const N: usize>(
     arities: &[u8],
     row: &mut [u8],
     table: &mut [u8],
@@ -241,17 +178,20 @@ fn replace_under(
     n: usize,
     replacement: &[u8],
     p: usize,
-    a: &mut [u16],
-) -> Answer
-    requires { min alphabet_most (length (numbers arities.now)) ≤ length a.old }
-    ensures { ReplacedBytes (alphabet_of (numbers arities.now)) (lent row.old table.old classes.old) n (numbers replacement.now) p result (lent row.new table.new classes.new) }
+) -> Result<(usize, i32), Refusal>
+    requires { (N ≤ alphabet_most) × (min alphabet_most (length (numbers arities.now)) ≤ N) }
+    ensures { ReplacedBytes (alphabet_of (numbers arities.now)) (lent row.old table.old classes.old) n (numbers replacement.now) p (replace_answer result) (lent row.new table.new classes.new) }
 {
-    let k = wire::count(arities);
-    let places = rows::shortest(wire::count(row), wire::count(table), wire::count(classes));
-    match c_lent::read_sizes(arities, a, n, places) {
-        Check::Refused(r) => c_lent::refusal_of(r),
-        Check::Fine => replace_sized(&a[..k], row, table, classes, n, replacement, p),
+    let mut a = [0u16; N];
+    let places = Lent {
+        row,
+        table,
+        classes,
     }
+    .room();
+    c_lent::read_sizes(arities, &mut a, n, places)?;
+    let k = wire::count(arities);
+    replace_sized(&a[..k], row, table, classes, n, replacement, p)
 }
 
 // Replace: row, table and classes with the subtree at the position replaced, all in place; or the first refusal, which writes
@@ -267,9 +207,9 @@ pub fn replace(
 ) -> Answer
     ensures { ReplacedBytes (alphabet_of (numbers arities.now)) (lent row.old table.old classes.old) n (numbers replacement.now) position result (lent row.new table.new classes.new) }
 {
+    // Stays a choice among sizes: a const argument can't be computed, and the memory is fixed.
     if wire::count(arities) <= wire::SMALL {
-        let mut a = wire::small_room();
-        return replace_under(
+        return Answer::from(replace_under::<{ wire::SMALL }>(
             arities,
             row,
             table,
@@ -277,11 +217,9 @@ pub fn replace(
             n,
             replacement,
             position,
-            &mut a,
-        );
+        ));
     }
-    let mut a = wire::alphabet_room();
-    replace_under(
+    Answer::from(replace_under::<{ rows::ALPHABET_MOST }>(
         arities,
         row,
         table,
@@ -289,6 +227,5 @@ pub fn replace(
         n,
         replacement,
         position,
-        &mut a,
-    )
+    ))
 }

@@ -5,6 +5,6 @@ mod copies;
 mod edit;
 mod search;
 
-pub use copies::read_given;
+pub use copies::{Copies, read_given};
 pub use edit::replace;
 pub use search::find;

@@ -1,183 +1,127 @@
 // Find on copies of the lent numbers.
-ghost use Rattle.std.specs.Prelude.{◌≡◌, ◌≤◌, min, length};
-ghost use Rattle.rows.specs.Limits.{alphabet_most, pattern_most, row_most};
-ghost use Rattle.rows.specs.Programme.{Alphabet, alphabet_of, programme};
+ghost use Rattle.std.specs.Prelude.{◌≡◌, ◌≤◌, min, length, Ok};
+ghost use Rattle.rows.specs.Limits.{alphabet_most, row_most};
+ghost use Rattle.rows.specs.Programme.{Alphabet, alphabet_of, programme_of};
 ghost use Rattle.rows.specs.Refusals.{given};
-ghost use Rattle.rows.specs.declared.Check.TheVariants.{Fine};
 ghost use Rattle.patterns.specs.Searchable.{Searchable};
 ghost use Rattle.checks.specs.Checks.{search_check};
 ghost use Rattle.wire.specs.Wire.{numbers};
-ghost use Rattle.c_lent.specs.Lent.{lent, numbers_of};
+ghost use Rattle.c_lent.specs.Answer.{find_answer};
+ghost use Rattle.c_lent.specs.Lent.{lent_of, numbers_of};
 ghost use Rattle.c_lent.specs.Calls.{FoundBytes};
 
-use c_lent::Answer;
-use rows::{Check, Fault, Refusal};
+use crate::copies::{Copies, read_given};
+use c_lent::{Answer, Lent};
+use rows::{Fault, Programme, Refusal};
 
-// Room for the longest pattern.
-fn pattern_room() -> [u16; rows::PATTERN_MOST]
-    ensures { pattern_most ≡ length result }
-{
-    [0u16; rows::PATTERN_MOST]
-}
-
-// The matches are gathered in `room`, and their bytes written to `out` if it has room for them.
+// The matches are gathered in `room`, and their bytes written to `out` if it has room for them. The answer is their number.
 fn write_found(
-    row: &[u16],
-    table: &[u16],
-    classes: &[u16],
+    programme: Programme,
     pattern: &[u16],
     room: &mut [u16],
     out: &mut [u8],
-) -> Answer
-    requires { Searchable (programme row.now table.now classes.now) pattern.now × (length row.now ≤ length room.old) }
-    ensures { (a : Alphabet) → search_check a (programme row.now table.now classes.now) pattern.now ≡ Fine → FoundBytes a (programme row.now table.now classes.now) pattern.now out.old result out.new }
+) -> Result<usize, Refusal>
+    requires { Searchable (programme_of programme) pattern.now × (length programme.row.now ≤ length room.old) }
+    ensures { (a : Alphabet) → search_check a (programme_of programme.entry) pattern.now ≡ Ok tt → FoundBytes a (programme_of programme.entry) pattern.now out.old (find_answer result) out.new }
 {
-    let count = searches::write_matches(row, table, classes, pattern, room);
-    if wire::count(out) < count {
-        return c_lent::refusal_of(Refusal::OutputShort(count));
-    }
+    let count = searches::write_matches(programme, pattern, room);
+    rows::check_room(count, wire::count(out))?;
     wire::encode(&room[..count], out);
-    Answer {
-        refusal: 0,
-        change: 0,
-        place: 0,
-        count: count as u64,
-    }
+    Ok(count)
 }
 
-// The pattern is copied to `q` and checked, once row, table and classes are found right.
+// The pattern is copied and checked, once row, table and classes are found right.
 fn find_pattern(
     arities: &[u16],
-    row: &[u16],
-    table: &[u16],
-    classes: &[u16],
+    programme: Programme,
     pattern: &[u8],
-    q: &mut [u16],
     room: &mut [u16],
     out: &mut [u8],
-) -> Answer
-    requires { (given (alphabet_of arities.now) (programme row.now table.now classes.now) (length row.now) ≡ Fine) × (length row.now ≤ length room.old) × (pattern_most ≤ length q.old) }
-    ensures { FoundBytes (alphabet_of arities.now) (programme row.now table.now classes.now) (numbers pattern.now) out.old result out.new }
+) -> Result<usize, Refusal>
+    requires { (given (alphabet_of arities.now) (programme_of programme) (length programme.row.now) ≡ Ok tt) × (length programme.row.now ≤ length room.old) }
+    ensures { FoundBytes (alphabet_of arities.now) (programme_of programme.entry) (numbers pattern.now) out.old (find_answer result) out.new }
 {
     let m = wire::count(pattern);
     if rows::PATTERN_MOST < m {
-        return c_lent::refusal_of(Refusal::Pattern(Fault::Long(m)));
+        return Err(Refusal::Pattern(Fault::Long(m)));
     }
-    wire::decode(pattern, m, q);
-    match patterns::check_pattern(arities, &q[..m]) {
-        Check::Refused(r) => c_lent::refusal_of(r),
-        Check::Fine => write_found(row, table, classes, &q[..m], room, out),
-    }
+    let mut q = [0u16; rows::PATTERN_MOST];
+    wire::decode(pattern, m, &mut q);
+    patterns::check_pattern(arities, &q[..m])?;
+    write_found(programme, &q[..m], room, out)
 }
 
-// The alphabet, the row, its table and its classes are read to `a`, `w`, `t` and `c` and checked. `q` and `room` are for the pattern and
-// what the call keeps beside them.
-fn find_in(
+// The alphabet is read to `a`, a room that is lent for it. The row, its table and its classes are copied to rooms of N places and checked.
+// It stays a function of its own, so that a call on a short row has no room for a longer one on its stack.
+#[inline(never)]
+fn find_in<const N: usize>(
     arities: &[u8],
-    row: &[u8],
-    table: &[u8],
-    classes: &[u8],
+    lent: Lent,
     pattern: &[u8],
     out: &mut [u8],
     a: &mut [u16],
-    w: &mut [u16],
-    t: &mut [u16],
-    c: &mut [u16],
-    q: &mut [u16],
-    room: &mut [u16],
-) -> Answer
+) -> Result<usize, Refusal>
     requires arities_in_bounds { min alphabet_most (length (numbers arities.now)) ≤ length a.old }
-    requires row_in_bounds { (min row_most (length (numbers row.now)) ≤ length w.old) × (min row_most (length (numbers row.now)) ≤ length t.old) × (min row_most (length (numbers row.now)) ≤ length c.old) × (min row_most (length (numbers row.now)) ≤ length room.old) × (pattern_most ≤ length q.old) }
-    ensures { FoundBytes (alphabet_of (numbers arities.now)) (numbers_of (lent row.now table.now classes.now)) (numbers pattern.now) out.old result out.new }
+    requires row_in_bounds { (N ≤ row_most) × (min row_most (length (numbers lent.row.now)) ≤ N) }
+    ensures { FoundBytes (alphabet_of (numbers arities.now)) (numbers_of (lent_of lent.entry)) (numbers pattern.now) out.old (find_answer result) out.new }
 {
-    let k = wire::count(arities);
-    let n = wire::count(row);
-    match crate::copies::read_given(arities, row, table, classes, a, w, t, c, room) {
-        Check::Refused(r) => c_lent::refusal_of(r),
-        Check::Fine => find_pattern(&a[..k], &w[..n], &t[..n], &c[..n], pattern, q, room, out),
-    }
-}
-
-// Rooms for a row of fair length, or of any. A row over the limit is refused in the largest.
-fn find_long(
-    arities: &[u8],
-    row: &[u8],
-    table: &[u8],
-    classes: &[u8],
-    pattern: &[u8],
-    out: &mut [u8],
-    a: &mut [u16],
-) -> Answer
-    requires { min alphabet_most (length (numbers arities.now)) ≤ length a.old }
-    ensures { FoundBytes (alphabet_of (numbers arities.now)) (numbers_of (lent row.now table.now classes.now)) (numbers pattern.now) out.old result out.new }
-{
-    if wire::count(row) <= tables::FAIR {
-        let mut w = tables::fair_room();
-        let mut t = tables::fair_room();
-        let mut c = tables::fair_room();
-        let mut q = pattern_room();
-        let mut room = tables::fair_room();
-        return find_in(
-            arities, row, table, classes, pattern, out, a, &mut w, &mut t, &mut c, &mut q,
-            &mut room,
-        );
-    }
-    let mut w = tables::long_room();
-    let mut t = tables::long_room();
-    let mut c = tables::long_room();
-    let mut q = pattern_room();
-    let mut room = tables::long_room();
-    find_in(
-        arities, row, table, classes, pattern, out, a, &mut w, &mut t, &mut c, &mut q, &mut room,
+    let mut copies = Copies::<N>::new();
+    let mut room = [0u16; N];
+    read_given(arities, lent, a, &mut copies, &mut room)?;
+    let programme = copies.programme(wire::count(lent.row));
+    find_pattern(
+        &a[..wire::count(arities)],
+        programme,
+        pattern,
+        &mut room,
+        out,
     )
 }
 
-// Rooms for a short row. A pattern over its limit is refused in any room: with that, the function that makes larger rooms is called
-// from two places, and the compiler keeps its rooms out of the stack of a call on a short row.
+// Rooms for a short row, for one of fair length, or for any. A row over the limit is refused in the largest.
 fn find_sized(
     arities: &[u8],
-    row: &[u8],
-    table: &[u8],
-    classes: &[u8],
+    lent: Lent,
     pattern: &[u8],
     out: &mut [u8],
     a: &mut [u16],
-) -> Answer
+) -> Result<usize, Refusal>
     requires { min alphabet_most (length (numbers arities.now)) ≤ length a.old }
-    ensures { FoundBytes (alphabet_of (numbers arities.now)) (numbers_of (lent row.now table.now classes.now)) (numbers pattern.now) out.old result out.new }
+    ensures { FoundBytes (alphabet_of (numbers arities.now)) (numbers_of (lent_of lent.entry)) (numbers pattern.now) out.old (find_answer result) out.new }
 {
-    if rows::PATTERN_MOST < wire::count(pattern) {
-        return find_long(arities, row, table, classes, pattern, out, a);
+    let n = wire::count(lent.row);
+    // Stays a choice among sizes: a const argument can't be computed, and the memory is fixed.
+    if n <= tables::SHORT {
+        return find_in::<{ tables::SHORT }>(arities, lent, pattern, out, a);
     }
-    if tables::SHORT < wire::count(row) {
-        return find_long(arities, row, table, classes, pattern, out, a);
+    if n <= tables::FAIR {
+        return find_in::<{ tables::FAIR }>(arities, lent, pattern, out, a);
     }
-    let mut w = tables::short_room();
-    let mut t = tables::short_room();
-    let mut c = tables::short_room();
-    let mut q = pattern_room();
-    let mut room = tables::short_room();
-    find_in(
-        arities, row, table, classes, pattern, out, a, &mut w, &mut t, &mut c, &mut q, &mut room,
-    )
+    find_in::<{ rows::ROW_MOST }>(arities, lent, pattern, out, a)
+}
+
+// Room for an alphabet of at most N symbols.
+fn find_under<const N: usize>(
+    arities: &[u8],
+    lent: Lent,
+    pattern: &[u8],
+    out: &mut [u8],
+) -> Result<usize, Refusal>
+    requires { (N ≤ alphabet_most) × (min alphabet_most (length (numbers arities.now)) ≤ N) }
+    ensures { FoundBytes (alphabet_of (numbers arities.now)) (numbers_of (lent_of lent.entry)) (numbers pattern.now) out.old (find_answer result) out.new }
+{
+    let mut a = [0u16; N];
+    find_sized(arities, lent, pattern, out, &mut a)
 }
 
 // Find: the bytes of the matches' positions at the front of `out`, later bytes stay; or the first refusal, which writes nothing.
 // Nothing is copied before its size is known to be within the limits.
-pub fn find(
-    arities: &[u8],
-    row: &[u8],
-    table: &[u8],
-    classes: &[u8],
-    pattern: &[u8],
-    out: &mut [u8],
-) -> Answer
-    ensures { FoundBytes (alphabet_of (numbers arities.now)) (numbers_of (lent row.now table.now classes.now)) (numbers pattern.now) out.old result out.new }
+pub fn find(arities: &[u8], lent: Lent, pattern: &[u8], out: &mut [u8]) -> Answer
+    ensures { FoundBytes (alphabet_of (numbers arities.now)) (numbers_of (lent_of lent.entry)) (numbers pattern.now) out.old result out.new }
 {
+    // Stays a choice among sizes: a const argument can't be computed, and the memory is fixed.
     if wire::count(arities) <= wire::SMALL {
-        let mut a = wire::small_room();
-        return find_sized(arities, row, table, classes, pattern, out, &mut a);
+        return Answer::from(find_under::<{ wire::SMALL }>(arities, lent, pattern, out));
     }
-    let mut a = wire::alphabet_room();
-    find_sized(arities, row, table, classes, pattern, out, &mut a)
+    Answer::from(find_under::<{ rows::ALPHABET_MOST }>(arities, lent, pattern, out))
 }

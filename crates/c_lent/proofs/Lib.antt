@@ -1,2 +1,3 @@
+pub mod Built
 pub mod Checks
 pub mod Lists

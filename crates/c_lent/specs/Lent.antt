@@ -4,6 +4,7 @@ use Rattle.std.specs.Prelude.{List, ℕ}
 use Rattle.rows.specs.Programme.{Programme, programme}
 use Rattle.rows.specs.Buffers.{written}
 use Rattle.wire.specs.Wire.{numbers, bytes_of, Bytes}
+use Rattle.c_lent.specs.declared.Lent.{Lent as Lists}
 
 pub record Lent : Type 0 where
   pub row : List ℕ
@@ -12,6 +13,10 @@ pub record Lent : Type 0 where
 
 abbrev pub lent : List ℕ → List ℕ → List ℕ → Lent
 lent row table classes = record { row = row; table = table; classes = classes }
+
+-- the bytes of lists that are lent
+abbrev pub lent_of : Lists → Lent
+lent_of l = lent l.row.now l.table.now l.classes.now
 
 -- what lent bytes are: no byte is over 255
 pub record AreBytes (b : Lent) : Type 0 where

@@ -6,16 +6,16 @@ ghost use Rattle.rows.specs.Refusals.{alphabet};
 ghost use Rattle.wire.specs.Wire.{numbers};
 ghost use Rattle.c_lent.specs.Reading.{sizes_check, Read};
 
-use rows::{Arities, Check, Keeping, Refusal};
+use rows::{Arities, Refusal};
 
 // Refusals 1, 2 and 3; where there is none, the arities stand at the front of `room`.
-fn read_alphabet(arities: &[u8], room: &mut [u16]) -> Check
+fn read_alphabet(arities: &[u8], room: &mut [u16]) -> Result<(), Refusal>
     requires { min alphabet_most (length (numbers arities.now)) ≤ length room.old }
     ensures { Read (numbers arities.now) (alphabet (alphabet_of (numbers arities.now))) result room.new }
 {
     let k = wire::count(arities);
     if rows::ALPHABET_MOST < k {
-        return Check::Refused(Refusal::Arities(Arities::Count(k)));
+        return Err(Refusal::Arities(Arities::Count(k)));
     }
     wire::decode(arities, k, room);
     rows::check_alphabet(&room[..k])
@@ -23,16 +23,10 @@ fn read_alphabet(arities: &[u8], room: &mut [u16]) -> Check
 
 // Refusals 1 to 6, for a row of n numbers and buffers with `places` places or more; where there is none, the arities stand at the
 // front of `room`.
-pub fn read_sizes(arities: &[u8], room: &mut [u16], n: usize, places: usize) -> Check
+pub fn read_sizes(arities: &[u8], room: &mut [u16], n: usize, places: usize) -> Result<(), Refusal>
     requires { min alphabet_most (length (numbers arities.now)) ≤ length room.old }
     ensures { Read (numbers arities.now) (sizes_check (alphabet_of (numbers arities.now)) n places) result room.new }
 {
-    let alphabet = read_alphabet(arities, room);
-    let Check::Fine = alphabet else {
-        return alphabet;
-    };
-    match rows::check_sizes(n, places) {
-        Keeping::Unsound(k) => Check::Refused(Refusal::Row(k)),
-        Keeping::Sound => Check::Fine,
-    }
+    read_alphabet(arities, room)?;
+    rows::check_sizes(n, places).map_err(Refusal::Row)
 }

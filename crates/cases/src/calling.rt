@@ -1,9 +1,22 @@
 // The public calls, but for replace, sheet and those on catalogue files and bar notation. Each takes its lists from a case, and prints
 // what it answers and what it leaves in its buffers, in which nothing is written before.
+ghost use Rattle.std.specs.Prelude.{◌≤◌};
+
 use script::{count, list, list_at, number, number_at, pair, text};
-use sparrowhem::{Bound, Check, Fits, Found, Newest, Placed, Refusal};
+use sparrowhem::{Newest, Programme, Refusal};
 use std::io;
 use std::io::Write;
+
+// The row in list number `first` of a case, with its table and its classes in the two lists behind it.
+pub fn programme_at(case: &[u16], first: usize) -> Programme<'_>
+    requires { first ≤ 99 }
+{
+    Programme {
+        row: list_at(case, first),
+        table: list_at(case, first + 1),
+        classes: list_at(case, first + 2),
+    }
+}
 
 // build ARITIES | ROW | PLACES | PLACES: those of the table, those of the classes.
 pub fn build(to: &mut impl Write, case: &[u16], classes: &mut [u16]) -> io::Result<()> {
@@ -36,10 +49,10 @@ pub fn refusal(to: &mut impl Write, r: Refusal) -> io::Result<()> {
     )
 }
 
-fn checked(to: &mut impl Write, answer: Check) -> io::Result<()> {
+fn checked(to: &mut impl Write, answer: Result<(), Refusal>) -> io::Result<()> {
     match answer {
-        Check::Fine => text(to, b"fine\n"),
-        Check::Refused(r) => refusal(to, r),
+        Ok(()) => text(to, b"fine\n"),
+        Err(r) => refusal(to, r),
     }
 }
 
@@ -52,13 +65,7 @@ pub fn subtree(to: &mut impl Write, case: &[u16]) -> io::Result<()> {
 fn subtree_answer(to: &mut impl Write, case: &[u16]) -> io::Result<()> {
     placed(
         to,
-        sparrowhem::subtree_answer(
-            list_at(case, 0),
-            list_at(case, 1),
-            list_at(case, 2),
-            list_at(case, 3),
-            number_at(case, 4),
-        ),
+        sparrowhem::subtree_answer(list_at(case, 0), programme_at(case, 1), number_at(case, 4)),
     )
 }
 
@@ -75,22 +82,21 @@ fn subtree_part(to: &mut impl Write, case: &[u16]) -> io::Result<()> {
     )
 }
 
-fn placed(to: &mut impl Write, answer: Placed) -> io::Result<()> {
+fn placed(to: &mut impl Write, answer: Result<(usize, usize), Refusal>) -> io::Result<()> {
     match answer {
-        Placed::Refused(r) => refusal(to, r),
-        Placed::Span(begin, end) => pair(to, b"span", begin, end),
+        Err(r) => refusal(to, r),
+        Ok((begin, end)) => pair(to, b"span", begin, end),
     }
 }
 
 // find ARITIES | ROW | TABLE | CLASSES | PATTERN | PLACES
 pub fn find(to: &mut impl Write, case: &[u16], out: &mut [u16]) -> io::Result<()> {
-    found(
+    counted(
         to,
+        b"matches",
         sparrowhem::find(
             list_at(case, 0),
-            list_at(case, 1),
-            list_at(case, 2),
-            list_at(case, 3),
+            programme_at(case, 1),
             list_at(case, 4),
             out,
         ),
@@ -98,22 +104,27 @@ pub fn find(to: &mut impl Write, case: &[u16], out: &mut [u16]) -> io::Result<()
     list(to, out)
 }
 
-pub fn found(to: &mut impl Write, answer: Found) -> io::Result<()> {
+// Words and a number, or what is refused.
+pub fn counted(
+    to: &mut impl Write,
+    words: &[u8],
+    answer: Result<usize, Refusal>,
+) -> io::Result<()> {
     match answer {
-        Found::Refused(r) => refusal(to, r),
-        Found::Matches(n) => count(to, b"matches", n),
+        Err(r) => refusal(to, r),
+        Ok(n) => count(to, words, n),
     }
 }
 
 // variables ARITIES | ROW | TABLE | CLASSES | PATTERN | POSITION | PLACES
 pub fn variables(to: &mut impl Write, case: &[u16], out: &mut [u16]) -> io::Result<()> {
-    bound(
+    said(
         to,
+        b"matched\n",
+        b"unmatched\n",
         sparrowhem::variables(
             list_at(case, 0),
-            list_at(case, 1),
-            list_at(case, 2),
-            list_at(case, 3),
+            programme_at(case, 1),
             list_at(case, 4),
             number_at(case, 5),
             out,
@@ -122,11 +133,17 @@ pub fn variables(to: &mut impl Write, case: &[u16], out: &mut [u16]) -> io::Resu
     list(to, out)
 }
 
-fn bound(to: &mut impl Write, answer: Bound) -> io::Result<()> {
+// One text or another, or what is refused.
+fn said(
+    to: &mut impl Write,
+    yes: &[u8],
+    no: &[u8],
+    answer: Result<bool, Refusal>,
+) -> io::Result<()> {
     match answer {
-        Bound::Refused(r) => refusal(to, r),
-        Bound::Matched => text(to, b"matched\n"),
-        Bound::Unmatched => text(to, b"unmatched\n"),
+        Err(r) => refusal(to, r),
+        Ok(true) => text(to, yes),
+        Ok(false) => text(to, no),
     }
 }
 
@@ -141,12 +158,8 @@ fn newer_answer(to: &mut impl Write, case: &[u16]) -> io::Result<()> {
         to,
         sparrowhem::newer_answer(
             list_at(case, 0),
-            list_at(case, 1),
-            list_at(case, 2),
-            list_at(case, 3),
-            list_at(case, 4),
-            list_at(case, 5),
-            list_at(case, 6),
+            programme_at(case, 1),
+            programme_at(case, 4),
             list_at(case, 7),
         ),
     )
@@ -168,19 +181,21 @@ fn newer_part(to: &mut impl Write, case: &[u16]) -> io::Result<()> {
     )
 }
 
-fn newest(to: &mut impl Write, answer: Newest) -> io::Result<()> {
+fn newest(to: &mut impl Write, answer: Result<Newest, Refusal>) -> io::Result<()> {
     match answer {
-        Newest::Corrected(begin, end) => pair(to, b"corrected", begin, end),
-        Newest::OnRecord(begin, end) => pair(to, b"recorded", begin, end),
-        Newest::Nowhere => text(to, b"nowhere\n"),
-        Newest::Refused(r) => refusal(to, r),
+        Ok(Newest::Corrected(begin, end)) => pair(to, b"corrected", begin, end),
+        Ok(Newest::OnRecord(begin, end)) => pair(to, b"recorded", begin, end),
+        Ok(Newest::Nowhere) => text(to, b"nowhere\n"),
+        Err(r) => refusal(to, r),
     }
 }
 
 // plain ARITIES | ROW | PATTERN | POSITION
 pub fn plain(to: &mut impl Write, case: &[u16]) -> io::Result<()> {
-    fits(
+    said(
         to,
+        b"yes\n",
+        b"no\n",
         sparrowhem::plain_match(
             list_at(case, 0),
             list_at(case, 1),
@@ -188,14 +203,6 @@ pub fn plain(to: &mut impl Write, case: &[u16]) -> io::Result<()> {
             number_at(case, 3),
         ),
     )
-}
-
-fn fits(to: &mut impl Write, answer: Fits) -> io::Result<()> {
-    match answer {
-        Fits::Yes => text(to, b"yes\n"),
-        Fits::No => text(to, b"no\n"),
-        Fits::Refused(r) => refusal(to, r),
-    }
 }
 
 // each ARITIES | ROW | PATTERN: the positions where the plain matcher says yes.
@@ -209,8 +216,9 @@ fn each_position(
     row: &[u16],
     pattern: &[u16],
 ) -> io::Result<()> {
+    // Stays a loop over places: each place is asked about.
     for p in 0..row.len() {
-        if let Fits::Yes = sparrowhem::plain_match(arities, row, pattern, p) {
+        if let Ok(true) = sparrowhem::plain_match(arities, row, pattern, p) {
             number(to, p)?;
         }
     }

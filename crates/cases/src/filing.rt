@@ -2,9 +2,9 @@
 // case as numbers of 32 bits, and the bytes of a file as the low bytes of its numbers.
 ghost use Rattle.std.specs.Prelude.{◌≤◌, length};
 
-use crate::calling::refusal;
+use crate::calling::{counted, refusal};
 use script::{count, list, list_at, number, number_at, text};
-use sparrowhem::{Entry, Filed, Refusal, Taken};
+use sparrowhem::{Entry, Refusal};
 use std::io;
 use std::io::Write;
 
@@ -15,22 +15,21 @@ const UNSET: u8 = 190;
 fn widen(numbers: &[u16], room: &mut [u32]) -> usize
     ensures { result ≤ length room.new }
 {
-    let n = rows::shorter(numbers.len(), room.len());
-    for i in 0..n {
-        room[i] = numbers[i] as u32;
+    for (place, &number) in room.iter_mut().zip(numbers) {
+        *place = u32::from(number);
     }
-    n
+    numbers.len().min(room.len())
 }
 
 // Their low bytes likewise.
 fn narrow(numbers: &[u16], room: &mut [u8]) -> usize
     ensures { result ≤ length room.new }
 {
-    let n = rows::shorter(numbers.len(), room.len());
-    for i in 0..n {
-        room[i] = (numbers[i] % 256) as u8;
+    for (place, &number) in room.iter_mut().zip(numbers) {
+        // Stays `as`: a remainder fits, and `try_from` would answer an error that no call can give.
+        *place = (number % 256) as u8;
     }
-    n
+    numbers.len().min(room.len())
 }
 
 // file ARITIES | NUMBERS | LENGTHS | ROWS | PLACES: there is room for more numbers and lengths than a catalogue may have.
@@ -44,7 +43,7 @@ pub fn file(to: &mut impl Write, case: &[u16]) -> io::Result<()> {
 
 fn file_of(to: &mut impl Write, case: &[u16], numbers: &[u32], lengths: &[u32]) -> io::Result<()> {
     let mut file = [UNSET; 65536];
-    let n = rows::shorter(number_at(case, 4), 65536);
+    let n = number_at(case, 4).min(65536);
     file_in(to, case, numbers, lengths, &mut file[..n])
 }
 
@@ -62,15 +61,16 @@ fn file_in(
     bytes_or_end(to, file)
 }
 
-fn filed(to: &mut impl Write, answer: Filed) -> io::Result<()> {
+fn filed(to: &mut impl Write, answer: Result<usize, Refusal>) -> io::Result<()> {
     match answer {
-        Filed::Refused(r) => refused(to, r),
-        Filed::Bytes(n) => count(to, b"bytes", n),
+        Err(r) => refused(to, r),
+        Ok(n) => count(to, b"bytes", n),
     }
 }
 
 // `refused`, number and place, and the programme's number where it is not 0.
 fn refused(to: &mut impl Write, r: Refusal) -> io::Result<()> {
+    // Stays `as`: a usize has no From of a u32.
     let programme = sparrowhem::programme_of(r) as usize;
     if programme == 0 {
         refusal(to, r)
@@ -93,8 +93,8 @@ fn bytes_or_end(to: &mut impl Write, xs: &[u8]) -> io::Result<()> {
 }
 
 fn bytes(to: &mut impl Write, xs: &[u8]) -> io::Result<()> {
-    for i in 0..xs.len() {
-        number(to, xs[i] as usize)?;
+    for &x in xs {
+        number(to, usize::from(x))?;
     }
     text(to, b"\n")
 }
@@ -103,7 +103,11 @@ fn bytes(to: &mut impl Write, xs: &[u8]) -> io::Result<()> {
 pub fn symbols(to: &mut impl Write, case: &[u16], arities: &mut [u16]) -> io::Result<()> {
     let mut file = [0u8; 65536];
     let n = narrow(list_at(case, 0), &mut file);
-    taken(to, sparrowhem::catalogue_alphabet(&file[..n], arities))?;
+    counted(
+        to,
+        b"numbers",
+        sparrowhem::catalogue_alphabet(&file[..n], arities),
+    )?;
     list(to, arities)
 }
 
@@ -111,8 +115,9 @@ pub fn symbols(to: &mut impl Write, case: &[u16], arities: &mut [u16]) -> io::Re
 pub fn entry(to: &mut impl Write, case: &[u16], row: &mut [u16]) -> io::Result<()> {
     let mut file = [0u8; 65536];
     let n = narrow(list_at(case, 0), &mut file);
-    taken(
+    counted(
         to,
+        b"numbers",
         sparrowhem::catalogue_row(&file[..n], told(list_at(case, 1)), row),
     )?;
     list(to, row)
@@ -122,19 +127,12 @@ pub fn entry(to: &mut impl Write, case: &[u16], row: &mut [u16]) -> io::Result<(
 fn told(numbers: &[u16]) -> Entry {
     Entry {
         programme: 0,
-        start: at(numbers, 0) as u32,
-        length: at(numbers, 1) as u32,
+        start: u32::from(at(numbers, 0)),
+        length: u32::from(at(numbers, 1)),
     }
 }
 
 // A number of a list; 0 past its end.
 fn at(numbers: &[u16], i: usize) -> u16 {
-    if i < numbers.len() { numbers[i] } else { 0 }
-}
-
-fn taken(to: &mut impl Write, answer: Taken) -> io::Result<()> {
-    match answer {
-        Taken::Refused(r) => refusal(to, r),
-        Taken::Numbers(n) => count(to, b"numbers", n),
-    }
+    numbers.get(i).copied().unwrap_or(0)
 }

@@ -58,6 +58,7 @@ fn obey(to: &mut impl Write, line: &[u8]) -> io::Result<()> {
 
 fn lines(to: &mut impl Write, input: &[u8]) -> io::Result<()> {
     let mut at = 0;
+    // Stays a loop by index: the next line begins where this one ends.
     while at < input.len() {
         let end = script::line_end(input, at);
         obey(to, &input[at..end])?;

@@ -3,9 +3,10 @@
 // LENGTH | REPLACEMENT | POSITION | PATTERN: unless the pattern is empty, it is searched for in the row's buffer.
 ghost use Rattle.std.specs.Prelude.{◌≤◌};
 
-use crate::calling::{found, refusal};
-use script::{copy, digits, list, list_at, number, number_at, room, text};
-use sparrowhem::Replaced;
+use crate::calling::{counted, refusal};
+use rows::Programme;
+use script::{copy, list, list_at, number_at, room};
+use sparrowhem::Buffers;
 use std::io;
 use std::io::Write;
 
@@ -16,43 +17,33 @@ pub fn replace(to: &mut impl Write, case: &[u16]) -> io::Result<()> {
     let t = copy(list_at(case, 2), &mut table, 0);
     let mut classes = room();
     let c = copy(list_at(case, 3), &mut classes, 0);
-    replace_in(to, case, &mut row[..r], &mut table[..t], &mut classes[..c])
+    let mut lent = Buffers {
+        row: &mut row[..r],
+        table: &mut table[..t],
+        classes: &mut classes[..c],
+    };
+    replace_in(to, case, &mut lent)
 }
 
-fn replace_in(
-    to: &mut impl Write,
-    case: &[u16],
-    row: &mut [u16],
-    table: &mut [u16],
-    classes: &mut [u16],
-) -> io::Result<()> {
-    edit(to, case, 4, row, table, classes)?;
-    edit(to, case, 8, row, table, classes)?;
-    edit(to, case, 12, row, table, classes)?;
-    list(to, row)?;
-    list(to, table)?;
-    list(to, classes)
+fn replace_in(to: &mut impl Write, case: &[u16], lent: &mut Buffers) -> io::Result<()> {
+    edit(to, case, 4, lent)?;
+    edit(to, case, 8, lent)?;
+    edit(to, case, 12, lent)?;
+    list(to, lent.row)?;
+    list(to, lent.table)?;
+    list(to, lent.classes)
 }
 
 // The edit whose length is list number `first`, if the case has it.
-fn edit(
-    to: &mut impl Write,
-    case: &[u16],
-    first: usize,
-    row: &mut [u16],
-    table: &mut [u16],
-    classes: &mut [u16],
-) -> io::Result<()>
+fn edit(to: &mut impl Write, case: &[u16], first: usize, lent: &mut Buffers) -> io::Result<()>
     requires { first ≤ 99 }
 {
-    if 0 < list_at(case, first).len() {
-        put(to, case, first, row, table, classes)?;
+    if !list_at(case, first).is_empty() {
+        put(to, case, first, lent)?;
         seek(
             to,
             list_at(case, 0),
-            row,
-            table,
-            classes,
+            lent.programme(),
             list_at(case, first + 3),
         )?;
     }
@@ -60,83 +51,37 @@ fn edit(
 }
 
 // The call itself. The lists from number `first` on are its row length, replacement and position.
-fn put(
-    to: &mut impl Write,
-    case: &[u16],
-    first: usize,
-    row: &mut [u16],
-    table: &mut [u16],
-    classes: &mut [u16],
-) -> io::Result<()>
+fn put(to: &mut impl Write, case: &[u16], first: usize, lent: &mut Buffers) -> io::Result<()>
     requires { first ≤ 99 }
 {
-    let length = number_at(case, first);
-    replaced(
-        to,
-        sparrowhem::replace(
-            list_at(case, 0),
-            row,
-            table,
-            classes,
-            length,
-            list_at(case, first + 1),
-            number_at(case, first + 2),
-        ),
-        length,
-    )
+    let answer = sparrowhem::replace(
+        list_at(case, 0),
+        lent,
+        number_at(case, first),
+        list_at(case, first + 1),
+        number_at(case, first + 2),
+    );
+    match answer {
+        Err(r) => refusal(to, r),
+        Ok((length, change)) => writeln!(to, "length {length}, change {change}"),
+    }
 }
 
 // A search of the row's whole buffer, with an output of ten places.
 fn seek(
     to: &mut impl Write,
     arities: &[u16],
-    row: &[u16],
-    table: &[u16],
-    classes: &[u16],
+    programme: Programme,
     pattern: &[u16],
 ) -> io::Result<()> {
-    if 0 < pattern.len() {
+    if !pattern.is_empty() {
         let mut out = [script::UNSET; 10];
-        found(
+        counted(
             to,
-            sparrowhem::find(arities, row, table, classes, pattern, &mut out),
+            b"matches",
+            sparrowhem::find(arities, programme, pattern, &mut out),
         )?;
         list(to, &out)?;
     }
     Ok(())
-}
-
-fn replaced(to: &mut impl Write, answer: Replaced, old: usize) -> io::Result<()> {
-    match answer {
-        Replaced::Refused(r) => refusal(to, r),
-        Replaced::Done(new, by) => {
-            text(to, b"length")?;
-            number(to, new)?;
-            changed(to, by, new, old)
-        }
-    }
-}
-
-// The change in length: by how many numbers the row gains or loses.
-fn changed(to: &mut impl Write, by: i32, new: usize, old: usize) -> io::Result<()> {
-    if new < old {
-        change(to, b", change -", by, 0, old - new)
-    } else {
-        change(to, b", change ", by, new - old, 0)
-    }
-}
-
-// It is printed if the call answers just this one. No row gains or loses more than 16,384 numbers.
-fn change(to: &mut impl Write, words: &[u8], by: i32, gain: usize, loss: usize) -> io::Result<()> {
-    if 16384 < gain {
-        return Ok(());
-    }
-    if 16384 < loss {
-        return Ok(());
-    }
-    if by == edits::change(gain, loss) {
-        text(to, words)?;
-        digits(to, gain + loss)?;
-    }
-    text(to, b"\n")
 }

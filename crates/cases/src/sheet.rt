@@ -1,13 +1,13 @@
 // sheet ARITIES | ROW | TABLE | CLASSES | PATTERNS | LENGTHS | PLACES | PLACES: those of the positions, those of the results.
-use crate::calling::refusal;
+use crate::calling::{programme_at, refusal};
+use rows::Refusal;
 use script::{count, list, list_at, number, number_at, text};
-use sparrowhem::SheetFound;
 use std::io;
 use std::io::Write;
 
 pub fn sheet(to: &mut impl Write, case: &[u16], results: &mut [u16]) -> io::Result<()> {
     let mut positions = [script::UNSET; 65536];
-    let n = rows::shorter(number_at(case, 6), 65536);
+    let n = number_at(case, 6).min(65536);
     sheet_in(to, case, &mut positions[..n], results)
 }
 
@@ -21,9 +21,7 @@ fn sheet_in(
         to,
         sparrowhem::sheet(
             list_at(case, 0),
-            list_at(case, 1),
-            list_at(case, 2),
-            list_at(case, 3),
+            programme_at(case, 1),
             list_at(case, 4),
             list_at(case, 5),
             positions,
@@ -34,10 +32,10 @@ fn sheet_in(
     list_or_end(to, results)
 }
 
-fn answered(to: &mut impl Write, answer: SheetFound) -> io::Result<()> {
+fn answered(to: &mut impl Write, answer: Result<(usize, usize), Refusal>) -> io::Result<()> {
     match answer {
-        SheetFound::Refused(r) => refusal(to, r),
-        SheetFound::Matches(patterns, n) => {
+        Err(r) => refusal(to, r),
+        Ok((patterns, n)) => {
             text(to, b"patterns")?;
             number(to, patterns)?;
             count(to, b" matches", n)

@@ -1,5 +1,6 @@
 -- The file of a catalogue that is accepted is accepted; what the writer accepts is such a catalogue; and what the reader accepts is.
 -- Assumes nothing.
+use Rattle.std.specs.Prelude.{Result, Ok, Err, ⊤}
 use Prim.Native.Nat.{ℕ, zero, suc, ◌+◌, ◌*◌, ◌≤◌, ◌<◌}
 use mathlib.Core.Path.{◌≡◌, refl, sym, ap, ap₂, ◌∙◌, subst}
 use mathlib.Core.List.{List, [], ◌∷◌, ◌++◌, map}
@@ -13,13 +14,10 @@ use Rattle.rows.specs.Programme.{alphabet_of}
 use Rattle.rows.specs.Row.{reading}
 use Rattle.rows.specs.Refusals.{◌then◌, refuse_if, alphabet}
 use Rattle.rows.specs.declared.Leaves.TheVariants.{Symbols}
-use Rattle.rows.specs.declared.Verdict.{Verdict}
-use Rattle.rows.specs.declared.Verdict.TheVariants.{Whole, Faulty}
+use Rattle.rows.specs.declared.Fault.{Fault}
 use Rattle.rows.specs.declared.CatalogueFault.TheVariants.{Long, Programmes, Misplaced}
 use Rattle.rows.specs.declared.Refusal.{Refusal}
-use Rattle.rows.specs.declared.Refusal.TheVariants.{Catalogue as Fault}
-use Rattle.rows.specs.declared.Check.{Check}
-use Rattle.rows.specs.declared.Check.TheVariants.{Fine}
+use Rattle.rows.specs.declared.Refusal.TheVariants.{Catalogue as OfCatalogue}
 use Rattle.rows.proofs.Passing.{clash, both_fine, refuse_fine}
 use Rattle.wire.specs.Wire.{bytes_of, Bytes}
 use Rattle.wire.proofs.Numbers.{bytes_of-length}
@@ -52,7 +50,7 @@ entries-numbers at [] = refl
 entries-numbers at (p ∷ ps) = ap (λ (v : List ℕ). p.number ∷ v) (entries-numbers (at + 2 * length p.row) ps)
 
 -- rows that are laid one behind the other are placed right
-pub placed_right : (size at next : ℕ) (ps : List Numbered) → next + 2 * length (rows ps) ≡ size → placed size at next (entries next ps) ≡ Fine
+pub placed_right : (size at next : ℕ) (ps : List Numbered) → next + 2 * length (rows ps) ≡ size → placed size at next (entries next ps) ≡ Ok tt
 unfolding placed entries rows
 placed_right size at next [] h = simp (eq-eqb next size (omega arith))
 placed_right size at next (p ∷ ps) h =
@@ -63,30 +61,30 @@ placed_right size at next (p ∷ ps) h =
 
 -- no row is faulty exactly if each is read as one tree's
 abbrev pub EachWhole : List ℕ → List Numbered → Type 0
-EachWhole A ps = (k : ℕ) → k < length ps → reading A Symbols row_most (get_or (map row_of ps) k []) ≡ Whole
+EachWhole A ps = (k : ℕ) → k < length ps → reading A Symbols row_most (get_or (map row_of ps) k []) ≡ Ok tt
 
-as_whole : (n : ℕ) (v : Verdict) → as_programme n v ≡ Fine → v ≡ Whole
-as_whole n Whole e = refl
-as_whole n (Faulty f) e = absurd (clash _ _ e refl)
+as_whole : (n : ℕ) (v : Result ⊤ Fault) → as_programme n v ≡ Ok tt → v ≡ Ok tt
+as_whole n (Ok _) e = refl
+as_whole n (Err f) e = absurd (clash _ _ e refl)
 
-pub rows_each : (A : List ℕ) (ps : List Numbered) → rows_fit A ps ≡ Fine → EachWhole A ps
+pub rows_each : (A : List ℕ) (ps : List Numbered) → rows_fit A ps ≡ Ok tt → EachWhole A ps
 unfolding rows_fit
 rows_each A [] e k h = absurd (omega arith)
 rows_each A (p ∷ ps) e zero h = as_whole p.number _ (both_fine (as_programme p.number (reading A Symbols row_most p.row)) _ e).0
 rows_each A (p ∷ ps) e (suc k) h = rows_each A ps (both_fine (as_programme p.number (reading A Symbols row_most p.row)) _ e).1 k (omega arith)
 
-pub each_rows : (A : List ℕ) (ps : List Numbered) → EachWhole A ps → rows_fit A ps ≡ Fine
+pub each_rows : (A : List ℕ) (ps : List Numbered) → EachWhole A ps → rows_fit A ps ≡ Ok tt
 unfolding rows_fit
 each_rows A [] each = refl
 each_rows A (p ∷ ps) each =
-    ap (λ (v : Verdict). as_programme p.number v then rows_fit A ps) (each 0 (omega arith))
+    ap (λ (v : Result ⊤ Fault). as_programme p.number v then rows_fit A ps) (each 0 (omega arith))
     ∙ each_rows A ps (λ k h. each (suc k) (omega arith))
 
 -- checks that find nothing, one after the other
-all_fine : (a b : Check) → a ≡ Fine → b ≡ Fine → a then b ≡ Fine
-all_fine a b p q = ap (λ (x : Check). x then b) p ∙ q
+all_fine : (a b : Result ⊤ Refusal) → a ≡ Ok tt → b ≡ Ok tt → a then b ≡ Ok tt
+all_fine a b p q = ap (λ (x : Result ⊤ Refusal). x then b) p ∙ q
 
-passes : (b : Bool) (r : Refusal) → b ≡ false → refuse_if b r ≡ Fine
+passes : (b : Bool) (r : Refusal) → b ≡ false → refuse_if b r ≡ Ok tt
 passes b r e = ap (λ (x : Bool). refuse_if x r) e
 
 -- THE FILE OF A CATALOGUE THAT IS ACCEPTED
@@ -101,15 +99,15 @@ module _ (c : Catalogue) (ok : Accepted c) where
   unfolding first_row_in
   begins = ap₂ first_row (programmes_in_lem c) (symbols_in_lem c)
 
-  head_fine : head_fits f ≡ Fine
+  head_fine : head_fits f ≡ Ok tt
   unfolding head_fits file_size holds few
   head_fine =
       let long : first_row_in f ≤ length f = omega (arith, begins, file_length c) in
-      all_fine (file_size (length f)) _ (passes _ (Fault (Long (length f))) (le-ltb file_most (length f) ok.size))
+      all_fine (file_size (length f)) _ (passes _ (OfCatalogue (Long (length f))) (le-ltb file_most (length f) ok.size))
       (all_fine (holds (length f) (first_row_in f)) _ (simp (le-ltb (length f) (first_row_in f) long))
-      (passes _ (Fault (Programmes (programmes_in f))) (le-ltb programmes_most (programmes_in f) (omega (arith, ok.few, programmes_in_lem c)))))
+      (passes _ (OfCatalogue (Programmes (programmes_in f))) (le-ltb programmes_most (programmes_in f) (omega (arith, ok.few, programmes_in_lem c)))))
 
-  contents_fine : contents_fit f ≡ Fine
+  contents_fine : contents_fit f ≡ Ok tt
   unfolding contents_fit
   contents_fine =
       all_fine (rises 12 4 0 (map programme_of (entries_in f))) _
@@ -119,7 +117,7 @@ module _ (c : Catalogue) (ok : Accepted c) where
       (ap₂ (λ (i : ℕ) (v : List Entry). placed (length f) 4 i v) begins (entries_in_lem c)
       ∙ placed_right (length f) 4 (first_row n (length c.arities)) c.programmes (sym (file_length c)))
 
-  pub accepts_file : file_check f ≡ Fine
+  pub accepts_file : file_check f ≡ Ok tt
   unfolding file_check
   accepts_file =
       all_fine (head_fits f) _ head_fine
@@ -153,28 +151,28 @@ numbered-numbers (n ∷ ns) (l ∷ ls) w h = ap (λ (v : List ℕ). n ∷ v) (nu
 -- what the checks of what is given tell, for rows of m symbols
 pub record Fits (A ns ls : List ℕ) (m : ℕ) : Type 0 where
   pub few_programmes : length ns ≤ programmes_most
-  pub fine : alphabet (alphabet_of A) ≡ Fine
-  pub rising : rises 1 0 0 ns ≡ Fine
+  pub fine : alphabet (alphabet_of A) ≡ Ok tt
+  pub rising : rises 1 0 0 ns ≡ Ok tt
   pub many : length ls ≡ length ns
   pub sum : total ls ≡ m
   pub size : size_of A ns m ≤ file_most
 
-pub given_fits_lem : (A ns ls : List ℕ) (m : ℕ) → given_fits A ns ls m ≡ Fine → Fits A ns ls m
+pub given_fits_lem : (A ns ls : List ℕ) (m : ℕ) → given_fits A ns ls m ≡ Ok tt → Fits A ns ls m
 unfolding given_fits lengths_fit few file_size
 given_fits_lem A ns ls m h =
     let a = both_fine (few (length ns)) _ h in
     let b = both_fine (alphabet (alphabet_of A)) _ a.1 in
     let d = both_fine (rises 1 0 0 ns) _ b.1 in
     let e = both_fine (lengths_fit ns ls m) _ d.1 in
-    let x = is_wanted (eqb (length ls) (length ns)) _ (Fault (Misplaced m)) e.0 in
-    let y = is_wanted (eqb (total ls) m) Fine (Fault (Misplaced m)) x.1 in
+    let x = is_wanted (eqb (length ls) (length ns)) _ (OfCatalogue (Misplaced m)) e.0 in
+    let y = is_wanted (eqb (total ls) m) (Ok tt) (OfCatalogue (Misplaced m)) x.1 in
     record {
-      few_programmes = ltb-false programmes_most (length ns) (refuse_fine (ltb programmes_most (length ns)) (Fault (Programmes (length ns))) a.0);
+      few_programmes = ltb-false programmes_most (length ns) (refuse_fine (ltb programmes_most (length ns)) (OfCatalogue (Programmes (length ns))) a.0);
       fine = b.0;
       rising = d.0;
       many = eqb-true (length ls) (length ns) x.0;
       sum = eqb-true (total ls) m y.0;
-      size = ltb-false file_most (size_of A ns m) (refuse_fine (ltb file_most (size_of A ns m)) (Fault (Long (size_of A ns m))) e.1);
+      size = ltb-false file_most (size_of A ns m) (refuse_fine (ltb file_most (size_of A ns m)) (OfCatalogue (Long (size_of A ns m))) e.1);
     }
 
 -- the file of what is given is as long as was worked out
@@ -184,7 +182,7 @@ size_is A ns ls w many sum =
     file_length (catalogue_of A ns ls w)
     ∙ ap₂ (λ (i : ℕ) (v : List ℕ). first_row i (length A) + 2 * length v) (numbered-length ns ls w many) (numbered-rows ns ls w many sum)
 
-pub accepts_given : (A ns ls w : List ℕ) (k : ℕ) → write_check A ns ls w k ≡ Fine → Accepted (catalogue_of A ns ls w)
+pub accepts_given : (A ns ls w : List ℕ) (k : ℕ) → write_check A ns ls w k ≡ Ok tt → Accepted (catalogue_of A ns ls w)
 unfolding write_check
 accepts_given A ns ls w k h =
     let g = both_fine (given_fits A ns ls (length w)) _ h in
@@ -204,7 +202,7 @@ unfolding programme_in
 in_numbers f [] = refl
 in_numbers f (e ∷ es) = ap (λ (v : List ℕ). e.programme ∷ v) (in_numbers f es)
 
-pub holds_accepted : (f : List ℕ) → Bytes f → file_check f ≡ Fine → Accepted (catalogue_in f)
+pub holds_accepted : (f : List ℕ) → Bytes f → file_check f ≡ Ok tt → Accepted (catalogue_in f)
 unfolding file_check contents_fit catalogue_in
 holds_accepted f small h =
     let a = both_fine (head_fits f) _ h in

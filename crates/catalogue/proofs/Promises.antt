@@ -1,9 +1,9 @@
 -- The promises of specs/Promises, each with its proof.
 -- Assumes nothing.
+use Rattle.std.specs.Prelude.{Ok}
 use Prim.Native.Nat.{ℕ}
 use mathlib.Core.Path.{◌≡◌, sym, ap, ◌∙◌, subst}
 use mathlib.Core.List.{List}
-use Rattle.rows.specs.declared.Check.TheVariants.{Fine}
 use Rattle.catalogue.specs.Catalogue.{file_of}
 use Rattle.catalogue.specs.Reading.{catalogue_in}
 use Rattle.catalogue.specs.Refusals.{file_check}
@@ -26,7 +26,7 @@ one_file f g small small' h h' e = sym (writes_read f small h) ∙ ap file_of e 
 
 pub accepts_exactly : AcceptsExactly
 accepts_exactly f small =
-    (λ h. (catalogue_in f, holds_accepted f small h, writes_read f small h), λ x. subst (λ (g : List ℕ). file_check g ≡ Fine) x.2 (accepts_file x.0 x.1))
+    (λ h. (catalogue_in f, holds_accepted f small h, writes_read f small h), λ x. subst (λ (g : List ℕ). file_check g ≡ Ok tt) x.2 (accepts_file x.0 x.1))
 
 pub accepts_written : AcceptsWritten
 accepts_written = accepts_given

@@ -1,5 +1,6 @@
 -- A file that is accepted is the file of the catalogue that it holds.
 -- Assumes nothing.
+use Rattle.std.specs.Prelude.{Ok}
 use Prim.Native.Nat.{ℕ, zero, suc, ◌+◌, ◌*◌, ◌/◌, ◌%◌, ◌≤◌, ◌<◌}
 use mathlib.Core.Path.{◌≡◌, refl, sym, ap, ap₂, ◌∙◌, subst}
 use mathlib.Core.List.{List, [], ◌∷◌, ◌++◌, map}
@@ -18,8 +19,7 @@ use Rattle.catalogue.specs.Reading.{entries_of, programmes_in, symbols_in, entri
 use Rattle.catalogue.specs.Refusals.{file_size, holds, few, rises, programme_of, placed, head_fits, contents_fit, file_check}
 use Rattle.catalogue.specs.declared.Entry.{Entry}
 use Rattle.rows.specs.declared.CatalogueFault.TheVariants.{Long, Short, Programmes}
-use Rattle.rows.specs.declared.Refusal.TheVariants.{Catalogue as Fault}
-use Rattle.rows.specs.declared.Check.TheVariants.{Fine}
+use Rattle.rows.specs.declared.Refusal.TheVariants.{Catalogue as OfCatalogue}
 use Rattle.catalogue.proofs.Halves.{contents_read}
 use Rattle.catalogue.proofs.Checks.{placed_first, placed_last}
 
@@ -68,7 +68,7 @@ module _ (f : List ℕ) (at k : ℕ) (within : at + 2 * k ≤ length f) where
       ∙ take_all (2 * k) part (omega (arith, part_length))
 
 -- entries that are placed right are those of the programmes that they tell of, and the rows fill the file
-rows_back : (f : List ℕ) → Bytes f → (es : List Entry) (at next : ℕ) → placed (length f) at next es ≡ Fine
+rows_back : (f : List ℕ) → Bytes f → (es : List Entry) (at next : ℕ) → placed (length f) at next es ≡ Ok tt
     → (entries next (map (programme_in f) es) ≡ es) × (bytes_of (rows (map (programme_in f) es)) ≡ drop next f)
 unfolding entries rows programme_in row_in bytes_of
 rows_back f small [] at next h = (refl, sym (drop_of_length-le f {i = next} (omega (arith, placed_last (length f) at next h))))
@@ -102,29 +102,29 @@ first_two (x ∷ (y ∷ l)) k h = let two : 2 + k ≡ suc (suc k) = omega arith 
 -- what the checks of a file that is accepted tell
 pub record Whole (f : List ℕ) : Type 0 where
   pub long : first_row_in f ≤ length f
-  pub right : placed (length f) 4 (first_row_in f) (entries_in f) ≡ Fine
+  pub right : placed (length f) 4 (first_row_in f) (entries_in f) ≡ Ok tt
 
 pub record Heads (f : List ℕ) : Type 0 where
   pub size : length f ≤ 65536
   pub long : first_row_in f ≤ length f
   pub few : programmes_in f ≤ 256
 
-pub heads : (f : List ℕ) → head_fits f ≡ Fine → Heads f
+pub heads : (f : List ℕ) → head_fits f ≡ Ok tt → Heads f
 unfolding head_fits file_size holds few
 heads f h =
     let a = both_fine (file_size (length f)) _ h in
     let b = both_fine (holds (length f) (first_row_in f)) _ a.1 in
     record {
-      size = ltb-false 65536 (length f) (not-refused (ltb 65536 (length f)) (Fault (Long (length f))) Fine a.0).0;
-      long = ltb-false (length f) (first_row_in f) (not-refused (ltb (length f) (first_row_in f)) (Fault (Short (length f))) Fine b.0).0;
-      few = ltb-false 256 (programmes_in f) (not-refused (ltb 256 (programmes_in f)) (Fault (Programmes (programmes_in f))) Fine b.1).0;
+      size = ltb-false 65536 (length f) (not-refused (ltb 65536 (length f)) (OfCatalogue (Long (length f))) (Ok tt) a.0).0;
+      long = ltb-false (length f) (first_row_in f) (not-refused (ltb (length f) (first_row_in f)) (OfCatalogue (Short (length f))) (Ok tt) b.0).0;
+      few = ltb-false 256 (programmes_in f) (not-refused (ltb 256 (programmes_in f)) (OfCatalogue (Programmes (programmes_in f))) (Ok tt) b.1).0;
     }
 
-pub contents_right : (f : List ℕ) → contents_fit f ≡ Fine → placed (length f) 4 (first_row_in f) (entries_in f) ≡ Fine
+pub contents_right : (f : List ℕ) → contents_fit f ≡ Ok tt → placed (length f) 4 (first_row_in f) (entries_in f) ≡ Ok tt
 unfolding contents_fit
 contents_right f h = (both_fine (rises 12 4 0 (map programme_of (entries_in f))) _ h).1
 
-pub whole : (f : List ℕ) → file_check f ≡ Fine → Whole f
+pub whole : (f : List ℕ) → file_check f ≡ Ok tt → Whole f
 unfolding file_check
 whole f h =
     let a = both_fine (head_fits f) _ h in

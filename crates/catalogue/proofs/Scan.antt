@@ -1,5 +1,6 @@
 -- What a check that goes through the contents says at entry k, from the entry there: the step of each loop.
 -- Assumes nothing.
+use Rattle.std.specs.Prelude.{Ok, Err}
 use Prim.Native.Nat.{ℕ, suc, ◌+◌, ◌-◌, ◌*◌, ◌≤◌, ◌<◌}
 use mathlib.Core.Path.{◌≡◌, refl, sym, ap, ap₂, ◌∙◌}
 use mathlib.Core.List.{List, [], ◌∷◌, map}
@@ -18,8 +19,7 @@ use Rattle.catalogue.specs.Reading.{wide, entry_at, entries_of, programme_in, ro
 use Rattle.catalogue.specs.Refusals.{rises, programme_of, placed, as_programme, rows_fit}
 use Rattle.catalogue.specs.declared.Entry.{Entry}
 use Rattle.rows.specs.declared.CatalogueFault.TheVariants.{NotRising, Misplaced, LeftOver}
-use Rattle.rows.specs.declared.Refusal.TheVariants.{Catalogue as Fault}
-use Rattle.rows.specs.declared.Check.TheVariants.{Fine, Refused}
+use Rattle.rows.specs.declared.Refusal.TheVariants.{Catalogue as OfCatalogue}
 use Rattle.catalogue.proofs.Checks.{is_wanted}
 
 wide-drop : (w : List ℕ) (i k : ℕ) → wide (drop i w) k ≡ wide w (i + k)
@@ -60,21 +60,21 @@ module _ (w : List ℕ) (n k : ℕ) (h : k < n) where
   -- 67
   pub rising_at : (least : ℕ)
       → rises 12 (4 + 12 * k) least (map programme_of (entries_from w n k))
-      ≡ pick (ltb (wide w (2 + 6 * k)) least) (Refused (Fault (NotRising (4 + 12 * k))))
+      ≡ pick (ltb (wide w (2 + 6 * k)) least) (Err (OfCatalogue (NotRising (4 + 12 * k))))
       (rises 12 (4 + 12 * (k + 1)) (wide w (2 + 6 * k) + 1) (map programme_of (entries_from w n (k + 1))))
   unfolding rises entry_at
   rising_at least =
       let on : 4 + 12 * k + 12 ≡ 4 + 12 * (k + 1) = omega arith in
       ap (λ (es : List Entry). rises 12 (4 + 12 * k) least (map programme_of es)) (entries_more w n k h)
-      ∙ ap (λ (i : ℕ). pick (ltb (wide w (2 + 6 * k)) least) (Refused (Fault (NotRising (4 + 12 * k)))) (rises 12 i (wide w (2 + 6 * k) + 1) (map programme_of (entries_from w n (k + 1))))) on
+      ∙ ap (λ (i : ℕ). pick (ltb (wide w (2 + 6 * k)) least) (Err (OfCatalogue (NotRising (4 + 12 * k)))) (rises 12 i (wide w (2 + 6 * k) + 1) (map programme_of (entries_from w n (k + 1))))) on
 
   -- 68
   pub placed_at : (size next : ℕ)
       → placed size (4 + 12 * k) next (entries_from w n k)
       ≡ pick (eqb (wide w (4 + 6 * k)) next)
-      (pick (ltb size (next + 2 * wide w (6 + 6 * k))) (Refused (Fault (Misplaced (4 + 12 * k))))
+      (pick (ltb size (next + 2 * wide w (6 + 6 * k))) (Err (OfCatalogue (Misplaced (4 + 12 * k))))
       (placed size (4 + 12 * (k + 1)) (next + 2 * wide w (6 + 6 * k)) (entries_from w n (k + 1))))
-      (Refused (Fault (Misplaced (4 + 12 * k))))
+      (Err (OfCatalogue (Misplaced (4 + 12 * k))))
   unfolding placed entry_at
   placed_at size next =
       let on : 4 + 12 * k + 12 ≡ 4 + 12 * (k + 1) = omega arith in
@@ -84,12 +84,12 @@ module _ (w : List ℕ) (n k : ℕ) (h : k < n) where
       ∙ rw (on, start, long) refl
 
 -- past the last entry
-pub rising_done : (w : List ℕ) (n k least : ℕ) → n ≤ k → rises 12 (4 + 12 * k) least (map programme_of (entries_from w n k)) ≡ Fine
+pub rising_done : (w : List ℕ) (n k least : ℕ) → n ≤ k → rises 12 (4 + 12 * k) least (map programme_of (entries_from w n k)) ≡ Ok tt
 unfolding rises
 rising_done w n k least h = ap (λ (es : List Entry). rises 12 (4 + 12 * k) least (map programme_of es)) (entries_none w n k h)
 
 pub placed_done : (w : List ℕ) (n k size next : ℕ) → n ≤ k
-    → placed size (4 + 12 * k) next (entries_from w n k) ≡ pick (eqb next size) Fine (Refused (Fault (LeftOver next)))
+    → placed size (4 + 12 * k) next (entries_from w n k) ≡ pick (eqb next size) (Ok tt) (Err (OfCatalogue (LeftOver next)))
 unfolding placed
 placed_done w n k size next h = ap (placed size (4 + 12 * k) next) (entries_none w n k h)
 
@@ -97,12 +97,12 @@ placed_done w n k size next h = ap (placed size (4 + 12 * k) next) (entries_none
 pub record Lies (size next : ℕ) (w : List ℕ) (n k : ℕ) : Type 0 where
   pub begins : wide w (4 + 6 * k) ≡ next
   pub within : next + 2 * wide w (6 + 6 * k) ≤ size
-  pub rest : placed size (4 + 12 * (k + 1)) (next + 2 * wide w (6 + 6 * k)) (entries_from w n (k + 1)) ≡ Fine
+  pub rest : placed size (4 + 12 * (k + 1)) (next + 2 * wide w (6 + 6 * k)) (entries_from w n (k + 1)) ≡ Ok tt
 
-pub placed_lies : (size next : ℕ) (w : List ℕ) (n k : ℕ) → k < n → placed size (4 + 12 * k) next (entries_from w n k) ≡ Fine → Lies size next w n k
+pub placed_lies : (size next : ℕ) (w : List ℕ) (n k : ℕ) → k < n → placed size (4 + 12 * k) next (entries_from w n k) ≡ Ok tt → Lies size next w n k
 placed_lies size next w n k h e =
-    let a = is_wanted (eqb (wide w (4 + 6 * k)) next) _ (Fault (Misplaced (4 + 12 * k))) (sym (placed_at w n k h size next) ∙ e) in
-    let b = not-refused (ltb size (next + 2 * wide w (6 + 6 * k))) (Fault (Misplaced (4 + 12 * k))) _ a.1 in
+    let a = is_wanted (eqb (wide w (4 + 6 * k)) next) _ (OfCatalogue (Misplaced (4 + 12 * k))) (sym (placed_at w n k h size next) ∙ e) in
+    let b = not-refused (ltb size (next + 2 * wide w (6 + 6 * k))) (OfCatalogue (Misplaced (4 + 12 * k))) _ a.1 in
     record { begins = eqb-true (wide w (4 + 6 * k)) next a.0; within = ltb-false size (next + 2 * wide w (6 + 6 * k)) b.0; rest = b.1 }
 
 -- its row is the part of the file between the two
@@ -122,6 +122,6 @@ pub rows_at : (A f : List ℕ) (w : List ℕ) (n k : ℕ) → k < n
 unfolding rows_fit programme_in entry_at
 rows_at A f w n k h = ap (λ (es : List Entry). rows_fit A (map (programme_in f) es)) (entries_more w n k h)
 
-pub rows_done : (A f w : List ℕ) (n k : ℕ) → n ≤ k → rows_fit A (map (programme_in f) (entries_from w n k)) ≡ Fine
+pub rows_done : (A f w : List ℕ) (n k : ℕ) → n ≤ k → rows_fit A (map (programme_in f) (entries_from w n k)) ≡ Ok tt
 unfolding rows_fit
 rows_done A f w n k h = ap (λ (es : List Entry). rows_fit A (map (programme_in f) es)) (entries_none w n k h)

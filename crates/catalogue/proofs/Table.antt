@@ -1,5 +1,6 @@
 -- The lines of the table of refusals that are a catalogue's, as specs/Table states them, each with its proof.
 -- Assumes nothing.
+use Rattle.std.specs.Prelude.{Result, Ok, Err, ⊤}
 use Prim.Native.Nat.{ℕ, zero, suc, ◌+◌, ◌-◌, ◌*◌, ◌≤◌, ◌<◌}
 use mathlib.Core.Path.{◌≡◌, refl, sym, ap, ◌∙◌, subst}
 use mathlib.Core.List.{List, [], ◌∷◌, map}
@@ -15,13 +16,9 @@ use Rattle.rows.specs.Row.{pick, reading}
 use Rattle.rows.specs.Refusals.{◌then◌}
 use Rattle.rows.specs.declared.Fault.{Fault}
 use Rattle.rows.specs.declared.Leaves.TheVariants.{Symbols}
-use Rattle.rows.specs.declared.Verdict.{Verdict}
-use Rattle.rows.specs.declared.Verdict.TheVariants.{Whole, Faulty}
 use Rattle.rows.specs.declared.CatalogueFault.TheVariants.{Long, Short, Programmes, NotRising, Misplaced, LeftOver}
 use Rattle.rows.specs.declared.Refusal.{Refusal}
 use Rattle.rows.specs.declared.Refusal.TheVariants.{Catalogue, Programme}
-use Rattle.rows.specs.declared.Check.{Check}
-use Rattle.rows.specs.declared.Check.TheVariants.{Fine, Refused}
 use Rattle.rows.proofs.Passing.{below, clash}
 use Rattle.refusal_numbers.specs.Numbers.{number, place}
 use Rattle.refusal_numbers.specs.Table.{Refuses}
@@ -117,23 +114,23 @@ module _ (step : ℕ) where
     where
       go : (b : Bool) → ltb n least ≡ b
           → (Refuses (rises step (at + step) (n + 1) ns) k q → (i : ℕ) × (k ≡ 67) × (q ≡ at + step + step * i) × FirstBelow (n + 1) ns i)
-          → Refuses (pick b (Refused (Catalogue (NotRising at))) (rises step (at + step) (n + 1) ns)) k q
+          → Refuses (pick b (Err (Catalogue (NotRising at))) (rises step (at + step) (n + 1) ns)) k q
           → (i : ℕ) × (k ≡ 67) × (q ≡ at + step * i) × FirstBelow least (n ∷ ns) i
       go true e rest g = (0, g.0, g.1 ∙ omega (arith, mul-zero step), below_here n least ns (ltb-true n least e))
       go false e rest g =
           let r = rest g in
           (suc r.0, r.1, r.2 ∙ further at r.0, below_later n least ns r.0 (ltb-false n least e) r.3)
 
-  falls_from : (at least : ℕ) (ns : List ℕ) (i : ℕ) → FirstBelow least ns i → rises step at least ns ≡ Refused (Catalogue (NotRising (at + step * i)))
+  falls_from : (at least : ℕ) (ns : List ℕ) (i : ℕ) → FirstBelow least ns i → rises step at least ns ≡ Err (Catalogue (NotRising (at + step * i)))
   unfolding rises
   falls_from at least [] i f = absurd (omega (arith, f.within))
   falls_from at least (n ∷ ns) zero f =
-      ap (λ (b : Bool). pick b (Refused (Catalogue (NotRising at))) (rises step (at + step) (n + 1) ns)) (lt-ltb n least (f.at_front refl))
-      ∙ ap (λ (p : ℕ). Refused (Catalogue (NotRising p))) (omega (arith, mul-zero step))
+      ap (λ (b : Bool). pick b (Err (Catalogue (NotRising at))) (rises step (at + step) (n + 1) ns)) (lt-ltb n least (f.at_front refl))
+      ∙ ap (λ (p : ℕ). Err (Catalogue (NotRising p))) (omega (arith, mul-zero step))
   falls_from at least (n ∷ ns) (suc i) f =
-      ap (λ (b : Bool). pick b (Refused (Catalogue (NotRising at))) (rises step (at + step) (n + 1) ns)) (le-ltb n least (f.front (omega arith)))
+      ap (λ (b : Bool). pick b (Err (Catalogue (NotRising at))) (rises step (at + step) (n + 1) ns)) (le-ltb n least (f.front (omega arith)))
       ∙ falls_from (at + step) (n + 1) ns i (below_rest n least ns i f)
-      ∙ ap (λ (p : ℕ). Refused (Catalogue (NotRising p))) (further at i)
+      ∙ ap (λ (p : ℕ). Err (Catalogue (NotRising p))) (further at i)
 
 -- with nothing below which the first could be
 not_above_of : (ns : List ℕ) (i : ℕ) → FirstBelow 0 ns i → FirstNotAbove ns i
@@ -152,8 +149,8 @@ of_not_above ns i f =
     }
 
 -- a check refuses with the number and the place of the refusal that it gives
-given : (c : Check) (x : Refusal) (k q : ℕ) → c ≡ Refused x → k ≡ number x → q ≡ place x → Refuses c k q
-given c x k q e m p = subst (λ (d : Check). Refuses d k q) (sym e) (m, p)
+given : (c : Result ⊤ Refusal) (x : Refusal) (k q : ℕ) → c ≡ Err x → k ≡ number x → q ≡ place x → Refuses c k q
+given c x k q e m p = subst (λ (d : Result ⊤ Refusal). Refuses d k q) (sym e) (m, p)
 
 not_rising_in_file : (ns : List ℕ) (k q : ℕ) → Refuses (rises 12 4 0 ns) k q ↔ ((i : ℕ) × (k ≡ 67) × (q ≡ 4 + 12 * i) × FirstNotAbove ns i)
 not_rising_in_file ns k q = (
@@ -212,7 +209,7 @@ module _ (size : ℕ) where
   unfolding placed end_of
   placed_to at next [] k q n h = go (eqb next size) refl h
     where
-      go : (b : Bool) → eqb next size ≡ b → Refuses (pick b Fine (Refused (Catalogue (LeftOver next)))) k q → Wrong size at next [] k q
+      go : (b : Bool) → eqb next size ≡ b → Refuses (pick b (Ok tt) (Err (Catalogue (LeftOver next)))) k q → Wrong size at next [] k q
       go true e g = absurd g
       go false e g = let other = eqb-false next size e in inr (g.0, g.1, below next size (λ z. omega (arith, g.1)) (λ z. absurd (other (omega arith))), λ i z. absurd (omega arith))
   placed_to at next (e ∷ es) k q n h =
@@ -220,7 +217,7 @@ module _ (size : ℕ) where
     where
       go : (a b : Bool) → eqb e.start next ≡ a → ltb size (next + 2 * e.length) ≡ b
           → (next + 2 * e.length ≤ size → Refuses (placed size (at + 12) (next + 2 * e.length) es) k q → Wrong size (at + 12) (next + 2 * e.length) es k q)
-          → Refuses (pick a (pick b (Refused (Catalogue (Misplaced at))) (placed size (at + 12) (next + 2 * e.length) es)) (Refused (Catalogue (Misplaced at)))) k q
+          → Refuses (pick a (pick b (Err (Catalogue (Misplaced at))) (placed size (at + 12) (next + 2 * e.length) es)) (Err (Catalogue (Misplaced at)))) k q
           → Wrong size at next (e ∷ es) k q
       go false b x y rest g = inl (0, g.0, omega (arith, g.1), misplaced_here size next e es (inl (eqb-false e.start next x)))
       go true true x y rest g = inl (0, g.0, omega (arith, g.1), misplaced_here size next e es (inr (ltb-true size (next + 2 * e.length) y)))
@@ -232,25 +229,25 @@ module _ (size : ℕ) where
           (λ r. inr (r.0, r.1, r.2, all_right size next e es s z (length es) r.3))
           (rest z g)
 
-  misplaced_from : (at next : ℕ) (es : List Entry) (i : ℕ) → FirstMisplaced size next es i → placed size at next es ≡ Refused (Catalogue (Misplaced (at + 12 * i)))
+  misplaced_from : (at next : ℕ) (es : List Entry) (i : ℕ) → FirstMisplaced size next es i → placed size at next es ≡ Err (Catalogue (Misplaced (at + 12 * i)))
   unfolding placed end_of
   misplaced_from at next [] i f = absurd (omega (arith, f.within))
   misplaced_from at next (e ∷ es) zero f = go (eqb e.start next) (ltb size (next + 2 * e.length)) refl refl
     where
       go : (a b : Bool) → eqb e.start next ≡ a → ltb size (next + 2 * e.length) ≡ b
-          → pick a (pick b (Refused (Catalogue (Misplaced at))) (placed size (at + 12) (next + 2 * e.length) es)) (Refused (Catalogue (Misplaced at)))
-          ≡ Refused (Catalogue (Misplaced (at + 12 * 0)))
-      go false b x y = ap (λ (p : ℕ). Refused (Catalogue (Misplaced p))) (omega arith)
-      go true true x y = ap (λ (p : ℕ). Refused (Catalogue (Misplaced p))) (omega arith)
+          → pick a (pick b (Err (Catalogue (Misplaced at))) (placed size (at + 12) (next + 2 * e.length) es)) (Err (Catalogue (Misplaced at)))
+          ≡ Err (Catalogue (Misplaced (at + 12 * 0)))
+      go false b x y = ap (λ (p : ℕ). Err (Catalogue (Misplaced p))) (omega arith)
+      go true true x y = ap (λ (p : ℕ). Err (Catalogue (Misplaced p))) (omega arith)
       go true false x y =
           absurd (⊎_elim (λ w. w (eqb-true e.start next x)) (λ w. omega (arith, ltb-false size (next + 2 * e.length) y)) f.wrong)
   misplaced_from at next (e ∷ es) (suc i) f =
       let r = f.before 0 (omega arith) in
       simp (eq-eqb e.start next r.starts, le-ltb size (next + 2 * e.length) r.ends)
-      (misplaced_from (at + 12) (next + 2 * e.length) es i (misplaced_rest size next e es i f) ∙ ap (λ (p : ℕ). Refused (Catalogue (Misplaced p))) (omega arith))
+      (misplaced_from (at + 12) (next + 2 * e.length) es i (misplaced_rest size next e es i f) ∙ ap (λ (p : ℕ). Err (Catalogue (Misplaced p))) (omega arith))
 
   left_over_from : (at next : ℕ) (es : List Entry) → end_of next es (length es) < size → ((i : ℕ) → i < length es → Right size next es i)
-      → placed size at next es ≡ Refused (Catalogue (LeftOver (end_of next es (length es))))
+      → placed size at next es ≡ Err (Catalogue (LeftOver (end_of next es (length es))))
   unfolding placed end_of
   left_over_from at next [] h r = simp (ne_eqb next size (λ e. omega arith))
   left_over_from at next (e ∷ es) h r =
@@ -273,7 +270,7 @@ unfolding lengths_fit
 misplaced ns ls m k q = go (eqb (length ls) (length ns)) (eqb (total ls) m) refl refl
   where
     go : (a b : Bool) → eqb (length ls) (length ns) ≡ a → eqb (total ls) m ≡ b
-        → Refuses (pick a (pick b Fine (Refused (Catalogue (Misplaced m)))) (Refused (Catalogue (Misplaced m)))) k q
+        → Refuses (pick a (pick b (Ok tt) (Err (Catalogue (Misplaced m)))) (Err (Catalogue (Misplaced m)))) k q
         ↔ ((k ≡ 68) × (q ≡ m) × ((length ls ≡ length ns → ⊥) ⊎ (total ls ≡ m → ⊥)))
     go false b x y = (λ h. (h.0, h.1, inl (eqb-false (length ls) (length ns) x)), λ h. (h.0, h.1))
     go true false x y = (λ h. (h.0, h.1, inr (eqb-false (total ls) m y)), λ h. (h.0, h.1))
@@ -287,37 +284,34 @@ misplaced ns ls m k q = go (eqb (length ls) (length ns)) (eqb (total ls) m) refl
 abbrev Faults : (A : List ℕ) (ps : List Numbered) (x : Refusal) → Type 0
 Faults A ps x = (i : ℕ) × (f : Fault) × (x ≡ Programme (get_or (map number_of ps) i 0) f) × FirstFaulty A ps i f
 
-faulty_to : (A : List ℕ) (ps : List Numbered) (x : Refusal) → rows_fit A ps ≡ Refused x → Faults A ps x
+faulty_to : (A : List ℕ) (ps : List Numbered) (x : Refusal) → rows_fit A ps ≡ Err x → Faults A ps x
 unfolding rows_fit
-faulty_to A [] x e = absurd (clash Fine x refl e)
+faulty_to A [] x e = absurd (clash (Ok tt) x refl e)
 faulty_to A (p ∷ ps) x e = go (reading A Symbols row_most p.row) refl (faulty_to A ps x) e
   where
-    go : (v : Verdict) → reading A Symbols row_most p.row ≡ v → (rows_fit A ps ≡ Refused x → Faults A ps x)
-        → as_programme p.number v then rows_fit A ps ≡ Refused x → Faults A (p ∷ ps) x
-    go (Faulty f) r rest e = (0, f, same p.number f x e, record { within = omega arith; faulty = r; before = λ k z. absurd (omega arith) })
-      where
-        same : (n : ℕ) (f : Fault) (x : Refusal) → Refused (Programme n f) ≡ Refused x → x ≡ Programme n f
-        same n f x e = cc
-    go Whole r rest e =
+    go : (v : Result ⊤ Fault) → reading A Symbols row_most p.row ≡ v → (rows_fit A ps ≡ Err x → Faults A ps x)
+        → as_programme p.number v then rows_fit A ps ≡ Err x → Faults A (p ∷ ps) x
+    go (Err f) r rest e = (0, f, cc, record { within = omega arith; faulty = r; before = λ k z. absurd (omega arith) })
+    go (Ok _) r rest e =
         let y = rest e in
         (suc y.0, y.1, y.2, record { within = omega (arith, y.3.within); faulty = y.3.faulty; before = earlier y.0 y.3.before })
       where
-        earlier : (i : ℕ) → ((k : ℕ) → k < i → reading A Symbols row_most (get_or (map row_of ps) k []) ≡ Whole)
-            → (k : ℕ) → k < suc i → reading A Symbols row_most (get_or (map row_of (p ∷ ps)) k []) ≡ Whole
+        earlier : (i : ℕ) → ((k : ℕ) → k < i → reading A Symbols row_most (get_or (map row_of ps) k []) ≡ Ok tt)
+            → (k : ℕ) → k < suc i → reading A Symbols row_most (get_or (map row_of (p ∷ ps)) k []) ≡ Ok tt
         earlier i b zero z = r
         earlier i b (suc k) z = b k (omega arith)
 
 faulty_from : (A : List ℕ) (ps : List Numbered) (i : ℕ) (f : Fault) → FirstFaulty A ps i f
-    → rows_fit A ps ≡ Refused (Programme (get_or (map number_of ps) i 0) f)
+    → rows_fit A ps ≡ Err (Programme (get_or (map number_of ps) i 0) f)
 unfolding rows_fit
 faulty_from A [] i f h = absurd (omega (arith, h.within))
-faulty_from A (p ∷ ps) zero f h = ap (λ (v : Verdict). as_programme p.number v then rows_fit A ps) h.faulty
+faulty_from A (p ∷ ps) zero f h = ap (λ (v : Result ⊤ Fault). as_programme p.number v then rows_fit A ps) h.faulty
 faulty_from A (p ∷ ps) (suc i) f h =
-    ap (λ (v : Verdict). as_programme p.number v then rows_fit A ps) (h.before 0 (omega arith))
+    ap (λ (v : Result ⊤ Fault). as_programme p.number v then rows_fit A ps) (h.before 0 (omega arith))
     ∙ faulty_from A ps i f (record { within = omega (arith, h.within); faulty = h.faulty; before = λ k z. h.before (suc k) (omega arith) })
 
-row_faulty : (A : List ℕ) (ps : List Numbered) (x : Refusal) → (rows_fit A ps ≡ Refused x) ↔ Faults A ps x
-row_faulty A ps x = (faulty_to A ps x, λ y. faulty_from A ps y.0 y.1 y.3 ∙ ap (λ (z : Refusal). Refused z) (sym y.2))
+row_faulty : (A : List ℕ) (ps : List Numbered) (x : Refusal) → (rows_fit A ps ≡ Err x) ↔ Faults A ps x
+row_faulty A ps x = (faulty_to A ps x, λ y. faulty_from A ps y.0 y.1 y.3 ∙ ap (λ (z : Refusal). Err z) (sym y.2))
 
 pub table : Table
 table =

@@ -1,12 +1,10 @@
 -- Catalogues, and the file of each. A number of two bytes has the low byte first (`bytes_of`).
-use Rattle.std.specs.Prelude.{ℕ, suc, ◌+◌, ◌*◌, ◌/◌, ◌%◌, ◌<◌, ◌≤◌, ◌≡◌, List, [], ◌∷◌, ◌++◌, map, length, get_or}
+use Rattle.std.specs.Prelude.{ℕ, suc, ◌+◌, ◌*◌, ◌/◌, ◌%◌, ◌<◌, ◌≤◌, ◌≡◌, List, [], ◌∷◌, ◌++◌, map, length, get_or, Ok}
 use Rattle.rows.specs.Limits.{row_most, programmes_most, file_most}
 use Rattle.rows.specs.Programme.{alphabet_of}
 use Rattle.rows.specs.Row.{reading}
 use Rattle.rows.specs.Refusals.{alphabet}
 use Rattle.rows.specs.declared.Leaves.TheVariants.{Symbols}
-use Rattle.rows.specs.declared.Verdict.TheVariants.{Whole}
-use Rattle.rows.specs.declared.Check.TheVariants.{Fine}
 use Rattle.wire.specs.Wire.{bytes_of}
 use Rattle.catalogue.specs.declared.Entry.{Entry}
 
@@ -68,8 +66,8 @@ Rising ns = (k : ℕ) → suc k < length ns → get_or ns k 0 < get_or ns (suc k
 -- a catalogue that is accepted: its alphabet is; it has at most 256 programmes, by strictly rising number, each with a row that is;
 -- and its file is at most 65,536 bytes long
 pub record Accepted (c : Catalogue) : Type 0 where
-  pub alphabet : alphabet (alphabet_of c.arities) ≡ Fine
+  pub alphabet : alphabet (alphabet_of c.arities) ≡ Ok tt
   pub few : length c.programmes ≤ programmes_most
   pub rising : Rising (map number_of c.programmes)
-  pub rows : (k : ℕ) → k < length c.programmes → reading c.arities Symbols row_most (get_or (map row_of c.programmes) k []) ≡ Whole
+  pub rows : (k : ℕ) → k < length c.programmes → reading c.arities Symbols row_most (get_or (map row_of c.programmes) k []) ≡ Ok tt
   pub size : length (file_of c) ≤ file_most

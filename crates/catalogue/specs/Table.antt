@@ -1,14 +1,12 @@
 -- The lines of the table of refusals (docs/SCOPE.md) that are a catalogue's: each check refuses exactly when the table says so, with the
 -- number and the place that stand there. Proved in proofs/Table.
-use Rattle.std.specs.Prelude.{ℕ, zero, suc, ◌+◌, ◌-◌, ◌*◌, ◌<◌, ◌≤◌, ◌≡◌, List, [], ◌∷◌, map, ◌↔◌, ◌⊎◌, length, get_or}
+use Rattle.std.specs.Prelude.{ℕ, zero, suc, ◌+◌, ◌-◌, ◌*◌, ◌<◌, ◌≤◌, ◌≡◌, List, [], ◌∷◌, map, ◌↔◌, ◌⊎◌, length, get_or, Ok, Err}
 use Rattle.rows.specs.Limits.{row_most}
 use Rattle.rows.specs.Row.{reading}
 use Rattle.rows.specs.declared.Fault.{Fault}
 use Rattle.rows.specs.declared.Leaves.TheVariants.{Symbols}
-use Rattle.rows.specs.declared.Verdict.TheVariants.{Whole, Faulty}
 use Rattle.rows.specs.declared.Refusal.{Refusal}
 use Rattle.rows.specs.declared.Refusal.TheVariants.{Programme}
-use Rattle.rows.specs.declared.Check.TheVariants.{Refused}
 use Rattle.refusal_numbers.specs.Table.{Refuses}
 use Rattle.catalogue.specs.Catalogue.{Numbered, number_of, row_of}
 use Rattle.catalogue.specs.Refusals.{file_size, holds, few, rises, placed, rows_fit, total, lengths_fit}
@@ -45,8 +43,8 @@ pub record FirstMisplaced (size next : ℕ) (es : List Entry) (i : ℕ) : Type 0
 -- row i is the first that is not one tree's, with this fault
 pub record FirstFaulty (A : List ℕ) (ps : List Numbered) (i : ℕ) (f : Fault) : Type 0 where
   pub within : i < length ps
-  pub faulty : reading A Symbols row_most (get_or (map row_of ps) i []) ≡ Faulty f
-  pub before : (k : ℕ) → k < i → reading A Symbols row_most (get_or (map row_of ps) k []) ≡ Whole
+  pub faulty : reading A Symbols row_most (get_or (map row_of ps) i []) ≡ Err f
+  pub before : (k : ℕ) → k < i → reading A Symbols row_most (get_or (map row_of ps) k []) ≡ Ok tt
 
 pub record Table : Type 0 where
   -- 66: a file over 65,536 bytes. Its length.
@@ -70,4 +68,4 @@ pub record Table : Type 0 where
       → Refuses (lengths_fit ns ls m) k q ↔ ((k ≡ 68) × (q ≡ m) × ((length ls ≡ length ns → ⊥) ⊎ (total ls ≡ m → ⊥)))
   -- 4, 5, 7, 8, 9: the first row that is not one tree's, as the plain matcher refuses it, with the programme's number beside it
   pub row_faulty : (A : List ℕ) (ps : List Numbered) (x : Refusal)
-      → (rows_fit A ps ≡ Refused x) ↔ ((i : ℕ) × (f : Fault) × (x ≡ Programme (get_or (map number_of ps) i 0) f) × FirstFaulty A ps i f)
+      → (rows_fit A ps ≡ Err x) ↔ ((i : ℕ) × (f : Fault) × (x ≡ Programme (get_or (map number_of ps) i 0) f) × FirstFaulty A ps i f)

@@ -4,7 +4,7 @@
 
 // An entry of the contents: the programme's number, the byte where its row starts, its length in symbols.
 #[repr(C)]
-#[derive(Clone, Copy)]
+#[derive(Clone, Copy, Debug, PartialEq, Eq)]
 pub struct Entry {
     pub programme: u32,
     pub start: u32,

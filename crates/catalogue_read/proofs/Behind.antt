@@ -1,5 +1,6 @@
 -- What the checks behind the head are, for the numbers that the head says.
 -- Assumes nothing.
+use Rattle.std.specs.Prelude.{Ok, Err}
 use Prim.Native.Nat.{ℕ, ◌+◌, ◌-◌, ◌*◌, ◌≤◌, ◌<◌}
 use mathlib.Core.Path.{◌≡◌, sym, ap₂}
 use mathlib.Core.List.{List, map}
@@ -13,12 +14,11 @@ use Rattle.rows.specs.Refusals.{◌then◌}
 use Rattle.catalogue.specs.Refusals.{rises, programme_of, placed, rows_fit, head_fits, contents_fit, file_check}
 use Rattle.rows.specs.declared.Arities.TheVariants.{Count}
 use Rattle.rows.specs.declared.Refusal.TheVariants.{Arities}
-use Rattle.rows.specs.declared.Check.TheVariants.{Fine, Refused}
 use Rattle.rows.proofs.Passing.{both_fine, alphabet_long}
 use Rattle.catalogue.proofs.Read.{heads}
 use Rattle.catalogue_read.specs.Behind.{behind_head}
 
-module _ (f : List ℕ) (h : head_fits f ≡ Fine) where
+module _ (f : List ℕ) (h : head_fits f ≡ Ok tt) where
   -- a file whose head is right has one, and holds contents and arities
   pub headed : 4 ≤ length f
   unfolding first_row_in first_row
@@ -51,11 +51,11 @@ module _ (f : List ℕ) (n : ℕ) (e : n ≡ programmes_in f) where
       ap₂ (λ (i j : ℕ). take i (drop (4 + 12 * j) f)) long e
 
 -- an alphabet that is too long is refused before the rows are looked at
-pub arities_long : (f A : List ℕ) → A ≡ arities_in f → alphabet_most < length A → behind_head f ≡ Refused (Arities (Count (length A)))
+pub arities_long : (f A : List ℕ) → A ≡ arities_in f → alphabet_most < length A → behind_head f ≡ Err (Arities (Count (length A)))
 unfolding behind_head
 arities_long f A e h = simp (sym e, alphabet_long A h)
 
 -- an accepted file has a head
-pub file_headed : (f : List ℕ) → file_check f ≡ Fine → 4 ≤ length f
+pub file_headed : (f : List ℕ) → file_check f ≡ Ok tt → 4 ≤ length f
 unfolding file_check
 file_headed f h = headed f (both_fine (head_fits f) _ h).0

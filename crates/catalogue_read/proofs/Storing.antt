@@ -1,5 +1,6 @@
 -- Laws of the records with a file's entries written to the front.
 -- Assumes nothing.
+use Rattle.std.specs.Prelude.{Result, Ok, Err, ⊤}
 use Prim.Native.Nat.{ℕ, zero, suc, ◌+◌, ◌*◌, ◌≤◌, ◌<◌}
 use mathlib.Core.Path.{◌≡◌, refl, sym, ap, ap₂, ◌∙◌}
 use mathlib.Core.List.{List, [], ◌∷◌, ◌++◌}
@@ -8,18 +9,17 @@ use lib.ListN.{length, set, drop, length-set}
 use lib.Seq.{drop-drop}
 use Rattle.wire.specs.Wire.{numbers}
 use Rattle.catalogue.specs.Catalogue.{first_row}
-use Rattle.catalogue.specs.Reading.{entry_at, entries_of, programmes_in, entries_in, first_row_in}
-use Rattle.rows.specs.Buffers.{after}
+use Rattle.catalogue.specs.Reading.{entry_at, entries_of, programmes_in, symbols_in, entries_in, first_row_in}
 use Rattle.rows.specs.Refusals.{output}
 use Rattle.catalogue.specs.Refusals.{head_fits, file_check, read_check}
-use Rattle.rows.specs.declared.Check.{Check}
-use Rattle.rows.specs.declared.Check.TheVariants.{Fine, Refused}
 use Rattle.rows.proofs.Passing.{both_fine, output_fine}
 use Rattle.catalogue.proofs.Scan.{entry-drop}
 use Rattle.catalogue.proofs.Read.{entries_of-length, heads}
 use Rattle.catalogue.specs.declared.Entry.{Entry}
-use Rattle.catalogue_read.specs.Records.{kept, stored}
-use Rattle.catalogue_read.specs.Answers.{opened}
+use Rattle.catalogue_read.specs.Records.{stored}
+use Rattle.catalogue_read.specs.Answers.{holding, opened}
+use Rattle.catalogue_read.specs.declared.Opened.{Opened}
+use Rattle.rows.specs.declared.Refusal.{Refusal}
 
 pub length-stored : (w : List ℕ) (n : ℕ) (es : List Entry) → length (stored w n es) ≡ length es
 unfolding stored
@@ -58,11 +58,11 @@ stored_is w (suc n) es h =
     ∙ ap (λ (l : List Entry). l ++ drop (suc n) es) (sym (entries_last n w 2))
 
 -- what an accepted file says of the records
-record Accepts (f : List ℕ) (m : ℕ) : Type 0 where
-  room_for : programmes_in f ≤ m
-  long : 4 + 12 * programmes_in f ≤ length f
+pub record Accepts (f : List ℕ) (m : ℕ) : Type 0 where
+  pub room_for : programmes_in f ≤ m
+  pub long : 4 + 12 * programmes_in f ≤ length f
 
-accepts : (f : List ℕ) (m : ℕ) → read_check f m ≡ Fine → Accepts f m
+pub accepts : (f : List ℕ) (m : ℕ) → read_check f m ≡ Ok tt → Accepts f m
 unfolding read_check file_check output first_row_in first_row
 accepts f m h =
     let a = both_fine (file_check f) _ h in
@@ -72,24 +72,16 @@ accepts f m h =
       long = omega arith;
     }
 
--- the records that an answer asks for have room, and their entries are in the file
-pub kept_fits : (f : List ℕ) (m : ℕ)
-    → (kept (opened (read_check f m) f) ≤ m) × ((i : ℕ) → i < kept (opened (read_check f m) f) → 16 + 12 * i ≤ length f)
-kept_fits f m = go (read_check f m) refl
-  where
-    go : (c : Check) → read_check f m ≡ c → (kept (opened c f) ≤ m) × ((i : ℕ) → i < kept (opened c f) → 16 + 12 * i ≤ length f)
-    go Fine h = let a = accepts f m h in (a.room_for, λ i k. omega arith)
-    go (Refused r) h = (omega arith, λ i k. absurd (omega arith))
+-- the entries of an accepted file stand in front of the later records
+pub stored_all : (f : List ℕ) (es : List Entry) → read_check f (length es) ≡ Ok tt
+    → stored (numbers f) (programmes_in f) es ≡ entries_in f ++ drop (length (entries_in f)) es
+unfolding entries_in
+stored_all f es h =
+    let n = programmes_in f in
+    let w = drop 2 (numbers f) in
+    stored_is (numbers f) n es (accepts f (length es) h).room_for ∙ ap (λ (k : ℕ). entries_of n w ++ drop k es) (sym (entries_of-length n w))
 
-pub stored_left : (f : List ℕ) (es : List Entry)
-    → stored (numbers f) (kept (opened (read_check f (length es)) f)) es ≡ after (read_check f (length es)) (entries_in f ++ drop (length (entries_in f)) es) es
-unfolding stored entries_in
-stored_left f es = go (read_check f (length es)) refl
-  where
-    go : (c : Check) → read_check f (length es) ≡ c → stored (numbers f) (kept (opened c f)) es ≡ after c (entries_in f ++ drop (length (entries_in f)) es) es
-    go Fine h =
-        let n = programmes_in f in
-        let w = drop 2 (numbers f) in
-        stored_is (numbers f) n es (accepts f (length es) h).room_for
-        ∙ ap (λ (k : ℕ). entries_of n w ++ drop k es) (sym (entries_of-length n w))
-    go (Refused r) h = refl
+-- where the answer is no refusal, nothing is refused, and it says what the head says
+pub opened_fine : (c : Result ⊤ Refusal) (f : List ℕ) (o : Opened) → opened c f ≡ Ok o → (c ≡ Ok tt) × (o ≡ holding (programmes_in f) (symbols_in f))
+opened_fine (Ok _) f o e = (refl, cc)
+opened_fine (Err r) f o e = cc

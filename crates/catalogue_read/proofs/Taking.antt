@@ -1,5 +1,6 @@
 -- Laws of what is taken from a file as numbers: its alphabet, and the row of an entry.
 -- Assumes nothing.
+use Rattle.std.specs.Prelude.{Result, Ok, Err, ⊤}
 use Prim.Native.Nat.{ℕ, ◌+◌, ◌-◌, ◌*◌, ◌≤◌, ◌<◌}
 use mathlib.Core.Path.{◌≡◌, refl, sym, ap, ◌∙◌}
 use mathlib.Core.List.{List}
@@ -11,42 +12,35 @@ use Rattle.rows.specs.Buffers.{written, after}
 use Rattle.rows.specs.Refusals.{output}
 use Rattle.rows.specs.declared.CatalogueFault.TheVariants.{Misplaced}
 use Rattle.rows.specs.declared.Refusal.{Refusal}
-use Rattle.rows.specs.declared.Refusal.TheVariants.{Catalogue as Fault, OutputShort}
-use Rattle.rows.specs.declared.Check.{Check}
-use Rattle.rows.specs.declared.Check.TheVariants.{Fine, Refused}
+use Rattle.rows.specs.declared.Refusal.TheVariants.{Catalogue as OfCatalogue}
 use Rattle.wire.specs.Wire.{numbers}
 use Rattle.catalogue.specs.Reading.{programmes_in, symbols_in, arities_in, row_in}
 use Rattle.catalogue.specs.Refusals.{head_fits, alphabet_check, row_check}
 use Rattle.catalogue.specs.declared.Entry.{Entry}
 use Rattle.catalogue.proofs.Read.{part_count}
-use Rattle.catalogue_read.specs.declared.numbers.Taken.TheVariants.{Numbers, Refused as Untaken}
 use Rattle.catalogue_read.specs.Answers.{taken, Takes}
 use Rattle.catalogue_read.proofs.Behind.{arities_fit_lem}
 
-module _ (check : Check) (v b : List ℕ) where
+module _ (check : Result ⊤ Refusal) (v b : List ℕ) where
   -- a refusal is the answer, and the list stays
-  pub takes_none : (r : Refusal) → check ≡ Refused r → Takes check v b (Untaken r) b
+  pub takes_none : (r : Refusal) → check ≡ Err r → Takes check v b (Err r) b
   takes_none r e = record {
-    answer = sym (ap (λ (c : Check). taken c (length v)) e);
-    list = sym (ap (λ (c : Check). after c (written b 0 v) b) e);
+    answer = sym (ap (λ (c : Result ⊤ Refusal). taken c (length v)) e);
+    list = sym (ap (λ (c : Result ⊤ Refusal). after c (written b 0 v) b) e);
   }
 
   -- what is wanted is written, and its length the answer
-  pub takes_all : (n : ℕ) (b' : List ℕ) → check ≡ Fine → length v ≡ n → b' ≡ written b 0 v → Takes check v b (Numbers n) b'
+  pub takes_all : (n : ℕ) (b' : List ℕ) → check ≡ Ok tt → length v ≡ n → b' ≡ written b 0 v → Takes check v b (Ok n) b'
   takes_all n b' e long new = record {
-    answer = sym (ap (λ (c : Check). taken c (length v)) e ∙ ap Numbers long);
-    list = new ∙ sym (ap (λ (c : Check). after c (written b 0 v) b) e);
+    answer = sym (ap (λ (c : Result ⊤ Refusal). taken c (length v)) e ∙ ap Ok long);
+    list = new ∙ sym (ap (λ (c : Result ⊤ Refusal). after c (written b 0 v) b) e);
   }
 
 -- the alphabet of a file whose head is right
-module _ (f : List ℕ) (h : head_fits f ≡ Fine) (n m : ℕ) (e : n ≡ symbols_in f) where
-  pub alphabet-short : m < n → alphabet_check f m ≡ Refused (OutputShort n)
-  unfolding alphabet_check output
-  alphabet-short k = simp (h, sym e, lt-ltb m n k)
-
-  pub alphabet_fits : n ≤ m → alphabet_check f m ≡ Fine
-  unfolding alphabet_check output
-  alphabet_fits k = simp (h, sym e, le-ltb m n k)
+module _ (f : List ℕ) (h : head_fits f ≡ Ok tt) (n m : ℕ) (e : n ≡ symbols_in f) where
+  pub alphabet_room : alphabet_check f m ≡ output n m
+  unfolding alphabet_check
+  alphabet_room = simp (h, sym e)
 
   pub arities-count : length (arities_in f) ≡ n
   unfolding arities_in
@@ -56,18 +50,13 @@ module _ (f : List ℕ) (h : head_fits f ≡ Fine) (n m : ℕ) (e : n ≡ symbol
 
 -- the row of an entry
 module _ (f : List ℕ) (e : Entry) (m : ℕ) where
-  pub row_past : length f < e.start + 2 * e.length → row_check f e m ≡ Refused (Fault (Misplaced e.start))
+  pub row_past : length f < e.start + 2 * e.length → row_check f e m ≡ Err (OfCatalogue (Misplaced e.start))
   unfolding row_check
   row_past k = simp (lt-ltb (length f) (e.start + 2 * e.length) k)
 
-  module _ (within : e.start + 2 * e.length ≤ length f) where
-    pub row_short : m < e.length → row_check f e m ≡ Refused (OutputShort e.length)
-    unfolding row_check output
-    row_short k = simp (le-ltb (length f) (e.start + 2 * e.length) within, lt-ltb m e.length k)
-
-    pub row_fits : e.length ≤ m → row_check f e m ≡ Fine
-    unfolding row_check output
-    row_fits k = simp (le-ltb (length f) (e.start + 2 * e.length) within, le-ltb m e.length k)
+  pub row_room : e.start + 2 * e.length ≤ length f → row_check f e m ≡ output e.length m
+  unfolding row_check
+  row_room within = simp (le-ltb (length f) (e.start + 2 * e.length) within)
 
 -- a part that ends within the file has as many numbers, and they are the row
 module _ (f : List ℕ) (e : Entry) (within : e.start + 2 * e.length ≤ length f) where

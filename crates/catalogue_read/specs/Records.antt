@@ -3,13 +3,6 @@
 use Rattle.std.specs.Prelude.{ℕ, zero, suc, ◌+◌, ◌*◌, List, set}
 use Rattle.catalogue.specs.Reading.{entry_at}
 use Rattle.catalogue.specs.declared.Entry.{Entry}
-use Rattle.catalogue_read.specs.declared.Opened.{Opened}
-use Rattle.catalogue_read.specs.declared.Opened.TheVariants.{Holds, Refused}
-
--- how many records an answer writes
-abbrev pub kept : Opened → ℕ
-kept (Holds n s) = n
-kept (Refused r) = 0
 
 -- the first n entries, of a file with these numbers, one after the other
 unfoldable pub stored : List ℕ → ℕ → List Entry → List Entry

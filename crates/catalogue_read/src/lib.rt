@@ -4,10 +4,9 @@
 ghost use Rattle.std.specs.Prelude.{◌≡◌};
 ghost use Rattle.catalogue.specs.Refusals.{read_check};
 ghost use Rattle.catalogue_read.specs.Answers.{opened, Reads};
-ghost use Rattle.catalogue_read.specs.Records.{kept};
 
 use catalogue::Entry;
-use rows::{Check, Refusal};
+use rows::Refusal;
 
 mod contents;
 mod file;
@@ -15,53 +14,35 @@ mod head;
 mod numbers;
 mod records;
 
-pub use numbers::{Taken, catalogue_alphabet, catalogue_row};
+pub use numbers::{catalogue_alphabet, catalogue_row};
 
-// What reading a file answers: how many programmes and symbols it holds, or why it is refused.
-#[derive(Clone, Copy)]
-pub enum Opened {
-    Holds { programmes: usize, symbols: usize },
-    Refused(Refusal),
+// What an opened file holds: how many programmes and symbols.
+#[derive(Clone, Copy, Debug, PartialEq, Eq)]
+pub struct Opened {
+    pub programmes: usize,
+    pub symbols: usize,
 }
 
 // The answer for a file and so many records.
-fn answer(file: &[u8], room: usize) -> Opened
+#[tactic(auto, unfolding(catalogue::specs::Refusals::read_check))]
+fn answer(file: &[u8], room: usize) -> Result<Opened, Refusal>
     ensures { result ≡ opened (read_check file.now room) file.now }
 {
-    match file::check_file(file) {
-        Check::Refused(r) => Opened::Refused(r),
-        Check::Fine => {
-            let n = head::programmes_in(file);
-            if room < n {
-                return Opened::Refused(Refusal::OutputShort(n));
-            }
-            Opened::Holds {
-                programmes: n,
-                symbols: head::symbols_in(file),
-            }
-        }
-    }
-}
-
-// How many records an answer asks to be written.
-fn kept_by(opened: Opened) -> usize
-    ensures { result ≡ kept opened }
-{
-    match opened {
-        Opened::Holds {
-            programmes,
-            symbols: _,
-        } => programmes,
-        Opened::Refused(_) => 0,
-    }
+    file::check_file(file)?;
+    let programmes = head::programmes_in(file);
+    rows::check_room(programmes, room)?;
+    Ok(Opened {
+        programmes,
+        symbols: head::symbols_in(file),
+    })
 }
 
 // Reads a file: the entries of its contents at the front of `entries`, later records stay; or the first refusal, which writes
 // nothing.
-pub fn read_catalogue<'a, 'b>(file: &'a [u8], entries: &'b mut [Entry]) -> Opened
+pub fn read_catalogue(file: &[u8], entries: &mut [Entry]) -> Result<Opened, Refusal>
     ensures { Reads file.now entries.old result entries.new }
 {
-    let opened = answer(file, entries.len());
-    records::store(entries, file, kept_by(opened));
-    opened
+    let opened = answer(file, entries.len())?;
+    records::store(entries, file, opened.programmes);
+    Ok(opened)
 }

@@ -6,13 +6,11 @@ ghost use Rattle.catalogue_read.specs.Records.{stored};
 use catalogue::Entry;
 
 // Writes the first n entries to the front of `entries`; later records stay.
-pub fn store<'a, 'b>(entries: &'a mut [Entry], file: &'b [u8], n: usize)
+pub fn store(entries: &mut [Entry], file: &[u8], n: usize)
     requires { (n ≤ length entries.old) × ((i : ℕ) → i < n → 16 + 12 * i ≤ length file.now) }
     ensures { entries.new ≡ stored (numbers file.now) n entries.old }
 {
-    let mut i: usize = 0;
-    while i < n {
+    for i in 0..n {
         entries[i] = crate::contents::entry_at(file, i);
-        i += 1;
     }
 }

@@ -7,7 +7,9 @@ ghost use Rattle.catalogue.specs.Catalogue.{halves, contents, file_of};
 ghost use Rattle.catalogue.specs.Refusals.{catalogue_of, total, size_of};
 ghost use Rattle.catalogue_write.specs.Laid.{laid, front_of, Given, Layable};
 
+use crate::given::Programmes;
 use catalogue::Entry;
+use wire::Sent;
 
 // Puts a number of two bytes at place i.
 fn put_half(file: &mut [u8], i: usize, v: u16)
@@ -22,6 +24,7 @@ fn put_wide(file: &mut [u8], i: usize, v: u32)
     requires { 2 * i + 3 < length file.old }
     ensures { file.new ≡ written file.old (2 * i) (bytes_of (halves v)) }
 {
+    // Stays `as`, here and below: the number fits, as a contract says, and `try_from` would answer an error that no call can give.
     put_half(file, i, (v % 65536) as u16);
     put_half(file, i + 1, (v / 65536) as u16);
 }
@@ -42,16 +45,15 @@ fn put_contents(numbers: &[u32], lengths: &[u32], file: &mut [u8], first: usize)
     ensures { file.new ≡ written file.old 4 (bytes_of (contents (laid first numbers.now lengths.now))) }
 {
     let mut next = first;
-    let mut k = 0;
-    while k < numbers.len() {
+    for (k, &programme) in numbers.iter().enumerate() {
+        let length = lengths[k];
         let e = Entry {
-            programme: numbers[k],
+            programme,
             start: next as u32,
-            length: lengths[k],
+            length,
         };
         put_entry(file, 2 + 6 * k, e);
-        next += 2 * crate::given::widen(lengths[k]);
-        k += 1;
+        next += 2 * (length as usize);
     }
 }
 
@@ -60,15 +62,13 @@ fn put_arities(arities: &[u16], file: &mut [u8], at: usize)
     requires { (at + length arities.now ≤ length file.old) × ((k : ℕ) → get_or arities.now k 0 < 256) }
     ensures { file.new ≡ written file.old at arities.now }
 {
-    let mut k = 0;
-    while k < arities.len() {
-        file[at + k] = (arities[k] % 256) as u8;
-        k += 1;
+    for (k, &arity) in arities.iter().enumerate() {
+        file[at + k] = arity as u8;
     }
 }
 
 // Writes head, contents and arities to the front of `file`; later bytes stay.
-pub fn lay_front(arities: &[u16], numbers: &[u32], lengths: &[u32], file: &mut [u8])
+fn lay_front(arities: &[u16], numbers: &[u32], lengths: &[u32], file: &mut [u8])
     requires { Layable arities.now numbers.now lengths.now file.old }
     ensures { file.new ≡ written file.old 0 (front_of arities.now numbers.now lengths.now) }
 {
@@ -80,11 +80,13 @@ pub fn lay_front(arities: &[u16], numbers: &[u32], lengths: &[u32], file: &mut [
 }
 
 // Writes the whole file to the front of `file`; later bytes stay.
-pub fn lay_out(arities: &[u16], numbers: &[u32], lengths: &[u32], rows: &[u16], file: &mut [u8])
-    requires { Layable arities.now numbers.now lengths.now file.old × Given numbers.now lengths.now (length rows.now) × (size_of arities.now numbers.now (length rows.now) ≤ length file.old) }
-    ensures { file.new ≡ written file.old 0 (file_of (catalogue_of arities.now numbers.now lengths.now rows.now)) }
+pub fn lay_out<E: Sent>(arities: &[u16], given: Programmes<E>, file: &mut [u8])
+    requires layable { Layable arities.now given.numbers.now given.lengths.now file.old }
+    requires given { Given given.numbers.now given.lengths.now (length (E.Piece.numbers given.rows.now)) }
+    requires room { size_of arities.now given.numbers.now (length (E.Piece.numbers given.rows.now)) ≤ length file.old }
+    ensures { file.new ≡ written file.old 0 (file_of (catalogue_of arities.now given.entry.numbers.now given.entry.lengths.now (E.Piece.numbers given.entry.rows.now))) }
 {
-    lay_front(arities, numbers, lengths, file);
-    let first = 4 + 12 * numbers.len() + arities.len();
-    wire::encode(rows, &mut file[first..]);
+    lay_front(arities, given.numbers, given.lengths, file);
+    let first = 4 + 12 * given.numbers.len() + arities.len();
+    E::put_bytes(given.rows, &mut file[first..]);
 }

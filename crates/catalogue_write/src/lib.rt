@@ -1,39 +1,36 @@
 // The writer of a catalogue file: the checks of what is given, and the file's bytes.
 #![tactic(auto)]
 
+ghost use Rattle.std.specs.Prelude.{length};
 ghost use Rattle.catalogue_write.specs.Answers.{Writes};
 
-use rows::{Check, Refusal};
+use given::Programmes;
+use rows::Refusal;
+use wire::Sent;
 
 mod given;
 mod layout;
 
-pub use given::{check_few, check_given, check_room, size_of, widen};
-pub use layout::lay_front;
+pub use given::check_few;
 
-// What writing a catalogue answers: the file's size, or why it is refused.
-#[derive(Clone, Copy)]
-pub enum Filed {
-    Bytes(usize),
-    Refused(Refusal),
-}
-
-// Writes the file of a catalogue: numbers, lengths, and the rows laid end to end. The file stands at the front of `file`, later
-// bytes stay; or the first refusal, which writes nothing.
-pub fn write_catalogue(
+// Writes the file of a catalogue: numbers, lengths, and the rows laid end to end, as numbers or their bytes. The file stands at the
+// front of `file`, later bytes stay; or the first refusal, which writes nothing.
+// Stays three lists: callers have them apart, and inside they are one `Programmes`.
+pub fn write_catalogue<E: Sent>(
     arities: &[u16],
     numbers: &[u32],
     lengths: &[u32],
-    rows: &[u16],
+    rows: &[E],
     file: &mut [u8],
-) -> Filed
-    ensures { Writes arities.now numbers.now lengths.now rows.now file.old result file.new }
+) -> Result<usize, Refusal>
+    ensures { Writes arities.now numbers.now lengths.now (E.Piece.numbers rows.now) file.old result file.new }
 {
-    match given::check_write(arities, numbers, lengths, rows, file.len()) {
-        Check::Refused(r) => Filed::Refused(r),
-        Check::Fine => {
-            layout::lay_out(arities, numbers, lengths, rows, file);
-            Filed::Bytes(given::size_of(arities, numbers, rows.len()))
-        }
-    }
+    let given = Programmes {
+        numbers,
+        lengths,
+        rows,
+    };
+    given::check_write(arities, given, file.len())?;
+    layout::lay_out(arities, given, file);
+    Ok(given::size_of(arities, numbers, E::count(rows)))
 }

@@ -1,5 +1,6 @@
 -- What a build that refuses nothing has found.
 -- Assumes nothing.
+use Rattle.std.specs.Prelude.{Ok}
 use Prim.Native.Nat.{ℕ, ◌≤◌}
 use mathlib.Core.Path.{◌≡◌, sym, ap, ◌∙◌}
 use mathlib.Core.List.{List}
@@ -13,14 +14,13 @@ use Rattle.rows.specs.Buffers.{written}
 use Rattle.rows.specs.Refusals.{◌then◌, alphabet, sizes, symbols}
 use Rattle.rows.specs.declared.Leaves.TheVariants.{Symbols}
 use Rattle.rows.specs.declared.Refusal.TheVariants.{Row}
-use Rattle.rows.specs.declared.Check.TheVariants.{Fine}
 use Rattle.rows.proofs.Passing.{both_fine, row_fine, sizes_fits}
 use Rattle.rows.proofs.Buffers.{written-front, length-written}
 use Rattle.rows.proofs.Entry.{length-table}
 use Rattle.tables.specs.Given.{Right, Fillable}
 use Rattle.checks.specs.Checks.{build_check}
 
-pub build_fillable : (a : Alphabet) (P : Programme) → build_check a P ≡ Fine → Fillable a.arities P.row P.table 0
+pub build_fillable : (a : Alphabet) (P : Programme) → build_check a P ≡ Ok tt → Fillable a.arities P.row P.table 0
 unfolding build_check symbols
 build_fillable a P e =
     let rows = (both_fine (alphabet a) (sizes Row (length P.row) (room P) then symbols Row a.arities P.row) e).1 in
@@ -33,7 +33,7 @@ build_fillable a P e =
     }
 
 -- the list of classes has room for the row's
-pub build_classes : (a : Alphabet) (P : Programme) → build_check a P ≡ Fine → length P.row ≤ length P.classes
+pub build_classes : (a : Alphabet) (P : Programme) → build_check a P ≡ Ok tt → length P.row ≤ length P.classes
 unfolding build_check
 build_classes a P e =
     let rows = (both_fine (alphabet a) (sizes Row (length P.row) (room P) then symbols Row a.arities P.row) e).1 in

@@ -1,48 +1,32 @@
 // What find refuses before it looks for matches (its refusal 19 needs their count), and what the variables call refuses.
 ghost use Rattle.std.specs.Prelude.{◌≡◌};
-ghost use Rattle.rows.specs.Programme.{alphabet_of, programme};
+ghost use Rattle.rows.specs.Programme.{alphabet_of, programme_of};
 ghost use Rattle.checks.specs.Checks.{search_check, variables_check};
 
-use rows::{Check, Refusal};
+use crate::given::{check_given, check_position};
+use rows::{Programme, Refusal};
 
 // Refusals 1 to 10, 62, and 11 to 15.
-pub fn check_search(
-    arities: &[u16],
-    row: &[u16],
-    table: &[u16],
-    classes: &[u16],
-    pattern: &[u16],
-) -> Check
-    ensures { result ≡ search_check (alphabet_of arities.now) (programme row.now table.now classes.now) pattern.now }
+#[tactic(auto, unfolding(crate::specs::Checks::search_check))]
+pub fn check_search(arities: &[u16], programme: Programme, pattern: &[u16]) -> Result<(), Refusal>
+    ensures { result ≡ search_check (alphabet_of arities.now) (programme_of programme.entry) pattern.now }
 {
-    let given = crate::given::check_given(arities, row, table, classes, row.len());
-    let Check::Fine = given else {
-        return given;
-    };
+    check_given(arities, programme, programme.row.len())?;
     patterns::check_pattern(arities, pattern)
 }
 
 // Refusals 1 to 10, 62, 11 to 15, 17, and 19 for an output of `places` places.
+#[tactic(auto, unfolding(crate::specs::Checks::variables_check))]
 pub fn check_variables(
     arities: &[u16],
-    row: &[u16],
-    table: &[u16],
-    classes: &[u16],
+    programme: Programme,
     pattern: &[u16],
     position: usize,
     places: usize,
-) -> Check
-    ensures { result ≡ variables_check (alphabet_of arities.now) (programme row.now table.now classes.now) pattern.now position places }
+) -> Result<(), Refusal>
+    ensures { result ≡ variables_check (alphabet_of arities.now) (programme_of programme.entry) pattern.now position places }
 {
-    let search = check_search(arities, row, table, classes, pattern);
-    let Check::Fine = search else {
-        return search;
-    };
-    if row.len() <= position {
-        return Check::Refused(Refusal::Position(position));
-    }
-    if places < rows::SPAN_PLACES {
-        return Check::Refused(Refusal::OutputShort(rows::SPAN_PLACES));
-    }
-    Check::Fine
+    check_search(arities, programme, pattern)?;
+    check_position(programme.row.len(), position)?;
+    rows::check_room(rows::SPAN_PLACES, places)
 }

@@ -1,24 +1,16 @@
 // What build refuses.
 ghost use Rattle.std.specs.Prelude.{◌≡◌};
-ghost use Rattle.rows.specs.Programme.{alphabet_of, programme};
+ghost use Rattle.rows.specs.Programme.{alphabet_of, programme_of};
 ghost use Rattle.checks.specs.Checks.{build_check};
 
-use rows::{Check, Keeping, Refusal};
+use rows::{Programme, Refusal};
 
 // Refusals 1 to 9. Table and classes are not read.
-pub fn check_build(arities: &[u16], row: &[u16], table: &[u16], classes: &[u16]) -> Check
-    ensures { result ≡ build_check (alphabet_of arities.now) (programme row.now table.now classes.now) }
+#[tactic(auto, unfolding(crate::specs::Checks::build_check))]
+pub fn check_build(arities: &[u16], programme: Programme) -> Result<(), Refusal>
+    ensures { result ≡ build_check (alphabet_of arities.now) (programme_of programme.entry) }
 {
-    let alphabet = rows::check_alphabet(arities);
-    let Check::Fine = alphabet else {
-        return alphabet;
-    };
-    let room = rows::shortest(row.len(), table.len(), classes.len());
-    if let Keeping::Unsound(k) = rows::check_sizes(row.len(), room) {
-        return Check::Refused(Refusal::Row(k));
-    }
-    match rows::check_symbols(arities, row) {
-        Keeping::Unsound(k) => Check::Refused(Refusal::Row(k)),
-        Keeping::Sound => Check::Fine,
-    }
+    rows::check_alphabet(arities)?;
+    rows::check_sizes(programme.row.len(), programme.room()).map_err(Refusal::Row)?;
+    rows::check_symbols(arities, programme.row).map_err(Refusal::Row)
 }

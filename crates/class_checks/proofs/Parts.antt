@@ -1,14 +1,23 @@
 -- Equal parts of a row are equal subtrees.
 -- Assumes nothing.
 use Prim.Native.Nat.{ℕ, ◌+◌, ◌≤◌, ◌<◌}
-use mathlib.Core.Path.{◌≡◌, refl, sym, ap, ◌∙◌, subst}
+use mathlib.Core.Path.{◌≡◌, refl, sym, ap, ap₂, ◌∙◌, subst}
 use mathlib.Core.List.{List}
 use native.Mathlib.Nat.{add-zero}
 use native.Mathlib.Omega.{arith}
-use lib.ListN.{length, get_or}
+use mathlib.Core.Bool.{Bool, true, false, true≢false}
+use lib.Dec.{eqb}
+use lib.ListN.{length, get_or, take, drop, length-drop}
+use lib.Seq.{get_or-drop, get_or-take, ext_get_or, length-take-le}
+use lib.Pointwise.{pointwise}
+use Rattle.std.specs.Bool.{Decides}
+use Rattle.std.proofs.Math.Logic.{∥∥₁_elim}
+use Rattle.std.proofs.Props.{props}
+use Rattle.std.proofs.lemmas.Bool.Decides.{Decides-eqb}
+use Rattle.std.proofs.lemmas.Slice.Eq.{slice_eq-Decides}
 use Rattle.rows.specs.Tree.{Forest, Forest.none, Forest.grow, Tree, count, size, subtree_at}
 use Rattle.rows.specs.Classes.{said, SameSign}
-use Rattle.classes.specs.Shown.{look, Shown}
+use Rattle.classes.specs.Shown.{look, Shown, Seen, Says}
 use Rattle.class_checks.specs.Repeats.{SamePart}
 use Rattle.rows.proofs.Alike.{same_tree}
 use Rattle.rows.proofs.Children.{Stands, kids_stand}
@@ -91,8 +100,31 @@ end_fits {f} {w} {t} s p h =
     let m : p < size f = omega (arith, s.many) in
     (omega (arith, s.ends p h), omega (arith, s.ends p h, s.many, fits_within f p m))
 
+-- the same of a row that shows some forest
+pub seen_end : {w t c : List ℕ} → ∥ Seen w t c ∥₁ → (p : ℕ) → p < length w → (p < get_or t p 0) × (get_or t p 0 ≤ length w)
+seen_end z p h = ∥∥₁_elim z (hlevel props) (λ y. end_fits y.shown p h)
+
 pub part_one : (l : List ℕ) (p q n : ℕ) → n ≡ 1 → get_or l p 0 ≡ get_or l q 0 → SamePart l p q n
 part_one l p q n e k = λ i h.
     let x : p + i ≡ p = omega arith in
     let y : q ≡ q + i = omega arith in
     ap (λ (n : ℕ). get_or l n 0) x ∙ k ∙ ap (λ (n : ℕ). get_or l n 0) y
+
+-- what `==` says of two parts of a list
+said_same : (l : List ℕ) (p q n : ℕ) (r : Bool) → p + n ≤ length l → q + n ≤ length l → Decides r (take n (drop p l) ≡ take n (drop q l)) → Says r (SamePart l p q n)
+said_same l p q n true h k d = λ i m.
+    let e = d.0 refl in
+    sym (get_or-drop p l i 0) ∙ sym (get_or-take n (drop p l) i 0 m) ∙ ap (λ (x : List ℕ). get_or x i 0) e ∙ get_or-take n (drop q l) i 0 m ∙ get_or-drop q l i 0
+said_same l p q n false h k d = λ s.
+    let left : length (take n (drop p l)) ≡ n = length-take-le n (drop p l) (omega (arith, length-drop p l)) in
+    let right : length (take n (drop q l)) ≡ n = length-take-le n (drop q l) (omega (arith, length-drop q l)) in
+    true≢false (sym (d.1 (ext_get_or 0 (take n (drop p l)) (take n (drop q l)) (left ∙ sym right)
+    (λ i h.
+    let m : i < n = omega (arith, left) in
+    get_or-take n (drop p l) i 0 m ∙ get_or-drop p l i 0 ∙ s i m ∙ sym (get_or-drop q l i 0) ∙ sym (get_or-take n (drop q l) i 0 m)))))
+
+pub same_slices : (l : List ℕ) (p q n a b : ℕ) (r : Bool) → p + n ≤ length l → q + n ≤ length l → a ≡ n → b ≡ n
+    → r ≡ pointwise eqb (take a (drop p l)) (take b (drop q l)) → Says r (SamePart l p q n)
+same_slices l p q n a b r h k x y e =
+    said_same l p q n r h k
+    (slice_eq-Decides Decides-eqb (take n (drop p l)) (take n (drop q l)) r (e ∙ ap₂ (λ (i j : ℕ). pointwise eqb (take i (drop p l)) (take j (drop q l))) x y))

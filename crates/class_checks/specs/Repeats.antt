@@ -2,23 +2,11 @@
 -- By what a list shows from left to right that it is the classes of a forest: a subtree that was there before is compared with
 -- that one, as parts of the row and of the list, and skipped; and of the positions that name themselves only the bare ones, with
 -- none below them, are looked up.
-use Rattle.std.specs.Prelude.{ℕ, ◌+◌, ◌-◌, ◌≤◌, ◌<◌, ◌≡◌, List, Bool, true, false, length, get_or, take}
+use Rattle.std.specs.Prelude.{ℕ, ◌+◌, ◌-◌, ◌≤◌, ◌<◌, ◌≡◌, List, Bool, true, false, length, get_or, take, Option, Some, None}
 use Rattle.rows.specs.Tree.{Forest, subtree_at}
 use Rattle.rows.specs.Classes.{classes, SameSign}
-use Rattle.rows.specs.Refusals.{keeps, classed}
-use Rattle.rows.specs.declared.Kept.{Kept}
-use Rattle.rows.specs.declared.Keeping.{Keeping}
-use Rattle.rows.specs.declared.Keeping.TheVariants.{Sound, Unsound}
-use Rattle.rows.specs.declared.Refusal.{Refusal}
-use Rattle.tables.specs.declared.Asked.{Asked}
-use Rattle.tables.specs.declared.Asked.TheVariants.{Right as OnlyRight, First}
-use Rattle.classes.specs.Shown.{sign_of, shelf, Bare, Nowhere}
-use Rattle.class_checks.specs.declared.Onward.{Onward}
-use Rattle.class_checks.specs.declared.Onward.TheVariants.{To, Wrong}
-use Rattle.class_checks.specs.declared.Signed.{Signed}
-use Rattle.class_checks.specs.declared.Signed.TheVariants.{Sign, Twice}
-use Rattle.class_checks.specs.declared.Next.{Next}
-use Rattle.class_checks.specs.declared.Next.TheVariants.{After, Amiss}
+use Rattle.rows.specs.declared.Programme.{Programme as Lent}
+use Rattle.classes.specs.Shown.{Shown, Seen, sign_of, shelf, Bare, Nowhere}
 
 -- the answer to a question, of which only a yes says something
 abbrev pub Grants : Bool → Type 0 → Type 0
@@ -29,11 +17,17 @@ Grants false X = Unit {0}
 abbrev pub Starts : List ℕ → List ℕ → List ℕ → Type 0
 Starts A w c = take (length w) c ≡ classes A w
 
--- what is answered to what is asked of the list: where only that all is right was asked, another answer says nothing
-abbrev pub Judges : List ℕ → List ℕ → List ℕ → Asked → Keeping → Type 0
-Judges A w c First r = (whose : Kept → Refusal) → keeps whose r ≡ classed whose A w c
-Judges A w c OnlyRight Sound = (whose : Kept → Refusal) → keeps whose Sound ≡ classed whose A w c
-Judges A w c OnlyRight (Unsound k) = Unit {0}
+-- a programme shows a forest, by its row and its table
+abbrev pub Shows : Forest → Lent → Type 0
+Shows f p = Shown f p.row.now p.table.now
+
+-- it shows some forest, and has a class for each position
+abbrev pub SeenIn : Lent → Type 0
+SeenIn p = Seen p.row.now p.table.now p.classes.now
+
+-- a list that leads nowhere
+abbrev pub Blank : List ℕ → Type 0
+Blank l = (h : ℕ) → get_or l h 0 ≡ 0
 
 -- before n: no entry is past its position, and it names a position that names itself and has the same sign
 pub record Local (f : Forest) (c : List ℕ) (n : ℕ) : Type 0 where
@@ -52,9 +46,9 @@ pub record Repeat (w c : List ℕ) (p q n : ℕ) : Type 0 where
   pub classes : SamePart c p q n
 
 -- the subtree at p was there before, at q, and ends at r
-abbrev pub Skips : List ℕ → List ℕ → List ℕ → ℕ → ℕ → Onward → Type 0
-Skips w t c p q (To r) = Repeat w c p q (get_or t p 0 - p) × (r ≡ get_or t p 0)
-Skips w t c p q Wrong = Unit {0}
+abbrev pub Skips : List ℕ → List ℕ → List ℕ → ℕ → ℕ → Option ℕ → Type 0
+Skips w t c p q (Some r) = Repeat w c p q (get_or t p 0 - p) × (r ≡ get_or t p 0)
+Skips w t c p q None = Unit {0}
 
 -- a position before p that names itself and has the sign of p, and stands where the entry of a, below p, says
 pub record Twin (f : Forest) (c : List ℕ) (p a : ℕ) : Type 0 where
@@ -70,9 +64,9 @@ pub record New (f : Forest) (c : List ℕ) (p : ℕ) : Type 0 where
   pub twins : Nowhere (Twin f c p) (p + 1) (subtree_at f p).children
 
 -- the sign of p, which has no twin
-abbrev pub Signs : Forest → List ℕ → ℕ → Signed → Type 0
-Signs f c p (Sign h) = (h ≡ sign_of f c p) × Nowhere (Twin f c p) (p + 1) (subtree_at f p).children
-Signs f c p Twice = Unit {0}
+abbrev pub Signs : Forest → List ℕ → ℕ → Option ℕ → Type 0
+Signs f c p (Some h) = (h ≡ sign_of f c p) × Nowhere (Twin f c p) (p + 1) (subtree_at f p).children
+Signs f c p None = Unit {0}
 
 -- Chains to the left: a head or a link is 0, or one more than a position; the chain from x on comes to q.
 pub data Falls (l : List ℕ) : ℕ → ℕ → Type 0 where
@@ -134,6 +128,6 @@ pub record Along (t c : List ℕ) (n p q : ℕ) : Type 0 where
   pub row : root.length_of ≡ n
 
 -- from `start` on, which names itself: the next position that is bare, and the next behind it that names itself, or the row's end
-abbrev pub Nexts : Forest → List ℕ → ℕ → ℕ → Next → Type 0
-Nexts f c n start (After last r) = (start < r) × (r ≤ n) × (r < n → get_or c r 0 ≡ r) × (start ≤ last) × Reached f c last r × Unbare f c start last
-Nexts f c n start Amiss = Unit {0}
+abbrev pub Nexts : Forest → List ℕ → ℕ → ℕ → Option (ℕ × ℕ) → Type 0
+Nexts f c n start (Some (last, r)) = (start < r) × (r ≤ n) × (r < n → get_or c r 0 ≡ r) × (start ≤ last) × Reached f c last r × Unbare f c start last
+Nexts f c n start None = Unit {0}

@@ -13,7 +13,8 @@ use Rattle.rows.proofs.Alike.{length-classes, class_first, first_same}
 use Rattle.rows.proofs.Classes.{class_of_row}
 use Rattle.rows.specs.Parse.{parse}
 use Rattle.rows.proofs.Parse.{size-parse}
-use Rattle.classes.specs.Lasts.{AllNamed}
+use Rattle.classes.specs.Lasts.{Rewrote, AllNamed}
+use Rattle.classes.proofs.Rewrote.{rewrote_then}
 
 -- a list starts with the classes of a forest if each entry is the first position with an equal subtree
 pub first-classes : (f : Forest) (c : List ℕ) → size f ≤ length c → ((p : ℕ) → p < size f → FirstEqual f p (get_or c p 0)) → take (size f) c ≡ classes_of f
@@ -33,11 +34,12 @@ front-written A w c c' front stays =
     ∙ ap₂ (λ (x y : List ℕ). x ++ y) front (stays ∙ ap (λ (k : ℕ). drop k c) n)
 
 -- all positions are named
-pub front_named : (A w c c' : List ℕ) {b : List ℕ} → AllNamed (parse A w) b c' (length w) → length w ≤ length c' → drop (length w) c' ≡ drop (length w) c → c' ≡ written c 0 (classes A w)
+pub front_named : (A w c : List ℕ) {b c' : List ℕ} → length w ≤ length c → Rewrote (length w) c b → AllNamed (parse A w) b c' (length w) → c' ≡ written c 0 (classes A w)
 unfolding classes
-front_named A w c c' all long stays =
+front_named A w c {b} {c'} room before all =
     let f = parse A w in
     let m : size f ≡ length w = size-parse A w in
+    let over = rewrote_then before all.rewrote in
     front-written A w c c'
-    (subst (λ (n : ℕ). take n c' ≡ classes_of f) m (first-classes f c' (omega arith) (λ p h. all.naming.done p (omega arith))))
-    stays
+    (subst (λ (n : ℕ). take n c' ≡ classes_of f) m (first-classes f c' (omega (arith, over.long)) (λ p h. all.naming.done p (omega arith))))
+    over.stays

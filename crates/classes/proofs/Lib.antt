@@ -5,3 +5,4 @@ pub mod Within
 pub mod Lasts
 pub mod Places
 pub mod Names
+pub mod Rewrote

@@ -9,10 +9,11 @@ use borrow.Author.Tests.{ltb-true, ltb-false}
 use lib.Dec.{ltb}
 use native.Mathlib.Omega.{arith}
 use lib.ListN.{length, get_or, set, length-set}
-use lib.Seq.{get_or-set_same, get_or-set_other, drop-set-lt, set-set}
+use lib.Seq.{get_or-set_same, get_or-set_other, set-set}
 use Rattle.rows.specs.Tree.{Forest, size, subtree_at}
 use Rattle.rows.specs.Row.{pick}
 use Rattle.rows.specs.Classes.{FirstEqual}
+use Rattle.classes.proofs.Rewrote.{rewrote_set, rewrote_then}
 use Rattle.classes.specs.Lasts.{LastEqual, last_of, Kept, Lead, Naming, Nameable, Named}
 use Rattle.classes.proofs.Lasts.{last_equal, last_same, last_twice, kept_leader}
 
@@ -166,7 +167,7 @@ module _ (f : Forest) (c : List ℕ) (p v : ℕ) (z : Nameable f c p) (here : ge
           naming =
               naming_set z.naming z.inside (get_or c v 0 - 49152) (omega (arith, z.inside, z.room)) (follower_first m)
               (λ k. subst (λ (q : ℕ). 49152 ≤ get_or c q 0) last_is m);
-          stays = drop-set-lt (size f) c p (get_or c v 0 - 49152) z.inside;
+          rewrote = rewrote_set (size f) c p (get_or c v 0 - 49152) z.inside;
         }
 
     pub follower_marked : get_or c v 0 < 49152 → Named f c (set (set c v (49152 + p)) p p) p
@@ -180,9 +181,7 @@ module _ (f : Forest) (c : List ℕ) (p v : ℕ) (z : Nameable f c p) (here : ge
               naming_set marked z.inside p wide
               (first_here z.naming z.inside (subst (λ (q : ℕ). get_or c q 0 < 49152) last_is m))
               (λ k. subst (λ (q : ℕ). 49152 ≤ get_or (set c v (49152 + p)) q 0) last_is noted);
-          stays =
-              drop-set-lt (size f) (set c v (49152 + p)) p p z.inside
-              ∙ drop-set-lt (size f) c v (49152 + p) follower_in.1;
+          rewrote = rewrote_then (rewrote_set (size f) c v (49152 + p) follower_in.1) (rewrote_set (size f) (set c v (49152 + p)) p p z.inside);
         }
 
   module _ (high : 32768 ≤ v) where
@@ -199,7 +198,7 @@ module _ (f : Forest) (c : List ℕ) (p v : ℕ) (z : Nameable f c p) (here : ge
     leader_set u first =
         record {
           naming = naming_set z.naming z.inside u (omega (arith, z.inside, z.room)) first (λ k. absurd (omega (arith, itself)));
-          stays = drop-set-lt (size f) c p u z.inside;
+          rewrote = rewrote_set (size f) c p u z.inside;
         }
 
     pub leader_named : 49152 ≤ v → Named f c (set c p (v - 49152)) p

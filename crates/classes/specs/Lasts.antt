@@ -1,13 +1,11 @@
 -- Inside: no public contract cites what stands in this file, and no reader has to believe it.
 -- How classes are filled in: from right to left each subtree gets the place of its last occurrence; then from left to right the
 -- last places become first ones. A place holds a number below 2 ^ 14, and in two more bits what it is for now.
-use Rattle.std.specs.Prelude.{ℕ, suc, ◌+◌, ◌-◌, ◌%◌, ◌≤◌, ◌<◌, ◌≡◌, List, [], ◌∷◌, map, ltb, length, get_or, drop}
+use Rattle.std.specs.Prelude.{ℕ, suc, ◌+◌, ◌-◌, ◌%◌, ◌≤◌, ◌<◌, ◌≡◌, List, [], ◌∷◌, map, ltb, length, get_or, drop, Option, Some, None}
 use Rattle.rows.specs.Tree.{Forest, Tree, size, subtrees, subtree_at}
 use Rattle.rows.specs.Row.{pick}
 use Rattle.rows.specs.Classes.{FirstEqual, place_of, kids, SameSign}
 use Rattle.classes.specs.Shown.{mixed, mixed_all, sign_of, shelf, Bare, Nowhere}
-use Rattle.classes.specs.declared.Found.{Found}
-use Rattle.classes.specs.declared.Found.TheVariants.{At, Nothing}
 use Rattle.classes.specs.declared.Sought.{Sought}
 use Rattle.classes.specs.declared.Sought.TheVariants.{Told, Sign}
 
@@ -102,9 +100,9 @@ Seeks f p (Told r) = Again f p r
 Seeks f p (Sign h) = (h ≡ sign_of f (lasts_of f) p) × Nowhere (Twin f p) (p + 1) (subtree_at f p).children
 
 -- what is found for p in the chain from x on
-abbrev pub Finds : Forest → List ℕ → ℕ → ℕ → Found → Type 0
-Finds f c p x (At r) = Again f p r
-Finds f c p x Nothing = (q : ℕ) → Comes c x q → SameSign f (lasts_of f) p q → ⊥
+abbrev pub Finds : Forest → List ℕ → ℕ → ℕ → Option ℕ → Type 0
+Finds f c p x (Some r) = Again f p r
+Finds f c p x None = (q : ℕ) → Comes c x q → SameSign f (lasts_of f) p q → ⊥
 
 -- so many for a short row, and for any other
 abbrev pub few_heads : ℕ
@@ -130,6 +128,11 @@ pub record Open (f : Forest) (c heads : List ℕ) (m p v h : ℕ) : Type 0 where
   pub nowhere : Nowhere (Twin f p) (p + 1) (subtree_at f p).children
   pub drawer : h ≡ last_drawer m f p
 
+-- a list of numbers is rewritten before place n alone
+pub record Rewrote (n : ℕ) (c c' : List ℕ) : Type 0 where
+  pub long : length c' ≡ length c
+  pub stays : drop n c' ≡ drop n c
+
 -- The entry v at the last place x, in the second pass, when the positions before p are done: no subtree before p is equal; or
 -- 2 ^ 15 and 2 ^ 14 and the first place.
 pub record Lead (f : Forest) (v x p : ℕ) : Type 0 where
@@ -153,9 +156,9 @@ pub record Nameable (f : Forest) (c : List ℕ) (p : ℕ) : Type 0 where
 -- it is named, and places past the forest's are left
 pub record Named (f : Forest) (c c' : List ℕ) (p : ℕ) : Type 0 where
   pub naming : Naming f c' (p + 1)
-  pub stays : drop (size f) c' ≡ drop (size f) c
+  pub rewrote : Rewrote (size f) c c'
 
 -- all positions from 0 up to n are named
 pub record AllNamed (f : Forest) (c c' : List ℕ) (n : ℕ) : Type 0 where
   pub naming : Naming f c' n
-  pub stays : drop n c' ≡ drop n c
+  pub rewrote : Rewrote n c c'

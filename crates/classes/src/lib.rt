@@ -1,36 +1,23 @@
 // The classes of a row, filled in: that of a position is the first position whose subtree is equal to the one there.
 #![tactic(auto)]
 
-ghost use Rattle.std.specs.Prelude.{◌≡◌, List, ℕ, ◌+◌, ◌-◌, ◌≤◌, ◌<◌, ltb, length, get_or, drop};
+ghost use Rattle.std.specs.Prelude.{◌≡◌, List, ℕ, ◌+◌, ◌-◌, ◌≤◌, ◌<◌, ltb, length, get_or};
 ghost use Rattle.rows.specs.Tree.{Forest, size};
 ghost use Rattle.rows.specs.Row.{pick};
 ghost use Rattle.rows.specs.Classes.{classes as classesOfRow, SameSign};
 ghost use Rattle.rows.specs.Buffers.{written};
 ghost use Rattle.tables.specs.Given.{Right};
-ghost use Rattle.classes.specs.Shown.{look, Shown, Seen, Says, mixed, shelf, Bare};
-ghost use Rattle.classes.specs.Lasts.{few_heads, many_heads, lasts_of, id_of, Ids, Keeps, Lasting, Again, Seeks, Finds, Drawers, Placed, Open, Naming, Nameable, Named, AllNamed};
+ghost use Rattle.classes.specs.Shown.{Shown, Seen, Says, mixed, shelf, Bare};
+ghost use Rattle.classes.specs.Lasts.{few_heads, many_heads, lasts_of, id_of, Ids, Keeps, Lasting, Again, Seeks, Finds, Drawers, Placed, Open, Rewrote, Naming, Nameable, Named, AllNamed};
 
-// A number as an index.
-pub fn wide(x: u16) -> usize
-    ensures { result ≡ x }
-{
-    x as usize
-}
-
-// The symbol at position p, as it is compared.
-pub fn symbol_at(row: &[u16], p: usize) -> u16
-    requires { p < length row.now }
-    ensures { result ≡ look row.now p }
-{
-    row[p]
-}
+use rows::Piece;
 
 // One number mixed into another, below 2 ^ 32.
 pub fn mix(h: u64, x: u16) -> u64
     requires { h < 4294967296 }
     ensures { (result ≡ mixed h x) × (result < 4294967296) }
 {
-    (h + x as u64) * 2654435761 % 4294967296
+    (h + u64::from(x)) * 2654435761 % 4294967296
 }
 
 // The drawer, of m, for what was mixed.
@@ -38,69 +25,74 @@ pub fn shelf_of(m: usize, h: u64) -> usize
     requires { (0 < m) × (m ≤ 16384) × (h < 4294967296) }
     ensures { (result ≡ shelf m h) × (result < m) }
 {
+    // Stays `as`: a product below m fits, and `try_from` would answer an error that no call can give.
     ((h + h / 32768) * 739982445 % 4294967296 * m as u64 / 4294967296) as usize
 }
 
-// The last place that the entry of position q stands for, where the entries are filled in so far.
-fn id_at(list: &[u16], q: usize) -> u16
-    requires { (q < length list.now) × (q < 16384) }
-    ensures { result ≡ id_of list.now q }
+// The number at place i, as an index.
+fn index_at<E: Piece>(list: &[E], i: usize) -> usize
+    requires { i < length (E.numbers list.now) }
+    ensures { result ≡ get_or (E.numbers list.now) i 0 }
 {
-    let v = list[q];
+    usize::from(E::number_at(list, i))
+}
+
+// The last place that the entry of position q stands for, where the entries are filled in so far.
+fn id_at<E: Piece>(list: &[E], q: usize) -> u16
+    requires { (q < length (E.numbers list.now)) × (q < 16384) }
+    ensures { result ≡ id_of (E.numbers list.now) q }
+{
+    let v = E::number_at(list, q);
     if v < 32768 {
         return v;
     }
+    // Stays `as`, here and below: the number fits, as a contract says, and `try_from` would answer an error that no call can give.
     q as u16
 }
 
 // Have positions p and q the same symbol, and children of the same last places?
-fn same_last(row: &[u16], table: &[u16], list: &[u16], p: usize, q: usize) -> bool
-    requires seen { Seen row.now table.now list.now }
-    requires p_lt_q { (p < q) × (q < length row.now) }
-    requires ids { (f : Forest) → Shown f row.now table.now → Ids f list.now (length row.now) (p + 1) }
-    ensures { (f : Forest) → Shown f row.now table.now → Says result (SameSign f (lasts_of f) p q) }
+fn same_last<E: Piece>(row: &[E], table: &[E], list: &[E], p: usize, q: usize) -> bool
+    requires seen { Seen (E.numbers row.now) (E.numbers table.now) (E.numbers list.now) }
+    requires p_lt_q { (p < q) × (q < length (E.numbers row.now)) }
+    requires ids { (f : Forest) → Shown f (E.numbers row.now) (E.numbers table.now) → Ids f (E.numbers list.now) (length (E.numbers row.now)) (p + 1) }
+    ensures { (f : Forest) → Shown f (E.numbers row.now) (E.numbers table.now) → Says result (SameSign f (lasts_of f) p q) }
 {
-    if symbol_at(row, p) != symbol_at(row, q) {
+    if E::number_at(row, p) != E::number_at(row, q) {
         return false;
     }
-    let end = wide(table[p]);
+    let end = index_at(table, p);
     let mut a = p + 1;
     let mut b = q + 1;
+    // Stays a loop by index: the next child begins where the table says.
     while a < end {
         if id_at(list, a) != id_at(list, b) {
             return false;
         }
-        a = wide(table[a]);
-        b = wide(table[b]);
+        a = index_at(table, a);
+        b = index_at(table, b);
     }
     true
 }
 
-// What a walk along a chain finds: a position, or nothing.
-#[derive(Clone, Copy)]
-pub enum Found {
-    At(usize),
-    Nothing,
-}
-
 // What the children of a position show: where its subtree stands again for the last time; or the sign of the position.
-#[derive(Clone, Copy)]
-pub enum Sought {
+// Stays an enum of its own: both are answers, and neither is the lack of one or a failure.
+#[derive(Clone, Copy, Debug, PartialEq, Eq)]
+enum Sought {
     Told(usize),
     Sign(u64),
 }
 
 // Is r, behind p, the last place of the subtree at p?
-fn is_again(row: &[u16], table: &[u16], list: &[u16], p: usize, r: usize) -> bool
-    requires seen { Seen row.now table.now list.now }
-    requires p_lt_r { (p < r) × (r < length row.now) }
-    requires keeps { (f : Forest) → Shown f row.now table.now → Keeps f list.now (p + 1) }
-    ensures { (f : Forest) → Shown f row.now table.now → Says result (Again f p r) }
+fn is_again<E: Piece>(row: &[E], table: &[E], list: &[E], p: usize, r: usize) -> bool
+    requires seen { Seen (E.numbers row.now) (E.numbers table.now) (E.numbers list.now) }
+    requires p_lt_r { (p < r) × (r < length (E.numbers row.now)) }
+    requires keeps { (f : Forest) → Shown f (E.numbers row.now) (E.numbers table.now) → Keeps f (E.numbers list.now) (p + 1) }
+    ensures { (f : Forest) → Shown f (E.numbers row.now) (E.numbers table.now) → Says result (Again f p r) }
 {
-    if symbol_at(row, p) != symbol_at(row, r) {
+    if E::number_at(row, p) != E::number_at(row, r) {
         return false;
     }
-    if list[r] < 32768 {
+    if E::number_at(list, r) < 32768 {
         return false;
     }
     same_last(row, table, list, p, r)
@@ -108,68 +100,79 @@ fn is_again(row: &[u16], table: &[u16], list: &[u16], p: usize, r: usize) -> boo
 
 // Where the subtree at p, with no last place below it, stands again for the last time, if a last place stands below that too: a
 // child of p then tells where. Else what its symbol and the last places of its children are mixed to.
-fn seek(row: &[u16], table: &[u16], list: &[u16], p: usize) -> Sought
-    requires seen { Seen row.now table.now list.now }
-    requires p_in_bounds { p < length row.now }
-    requires keeps { (f : Forest) → Shown f row.now table.now → Keeps f list.now (p + 1) × Bare f (lasts_of f) p }
-    ensures { (f : Forest) → Shown f row.now table.now → Seeks f p result }
+fn seek<E: Piece>(row: &[E], table: &[E], list: &[E], p: usize) -> Sought
+    requires seen { Seen (E.numbers row.now) (E.numbers table.now) (E.numbers list.now) }
+    requires p_in_bounds { p < length (E.numbers row.now) }
+    requires keeps { (f : Forest) → Shown f (E.numbers row.now) (E.numbers table.now) → Keeps f (E.numbers list.now) (p + 1) × Bare f (lasts_of f) p }
+    ensures { (f : Forest) → Shown f (E.numbers row.now) (E.numbers table.now) → Seeks f p result }
 {
-    let end = wide(table[p]);
-    let mut sign = mix(0, symbol_at(row, p));
+    let end = index_at(table, p);
+    let mut sign = mix(0, E::number_at(row, p));
     let mut a = p + 1;
+    // Stays a loop by index: the next child begins where the table says.
     while a < end {
         let last = id_at(list, a);
-        let r = wide(last) - (a - p);
+        let r = usize::from(last) - (a - p);
         if is_again(row, table, list, p, r) {
             return Sought::Told(r);
         }
         sign = mix(sign, last);
-        a = wide(table[a]);
+        a = index_at(table, a);
     }
     Sought::Sign(sign)
 }
 
 // The last place in the chain of drawer h that has the sign of p.
-fn find_last(row: &[u16], table: &[u16], list: &[u16], heads: &[u16], h: usize, p: usize) -> Found
-    requires seen { Seen row.now table.now list.now }
-    requires p_in_bounds { (p < length row.now) × (h < length heads.now) × (length heads.now ≤ 16384) }
-    requires lasting { (f : Forest) → Shown f row.now table.now → Lasting f list.now heads.now (length heads.now - 512) (p + 1) }
-    ensures { (f : Forest) → Shown f row.now table.now → Finds f list.now p (get_or heads.now h 0) result }
+// Stays parameters, here and below: three of the lists are read where the fourth is written, and two are lent apart by the callers.
+fn find_last<E: Piece>(
+    row: &[E],
+    table: &[E],
+    list: &[E],
+    heads: &[u16],
+    h: usize,
+    p: usize,
+) -> Option<usize>
+    requires seen { Seen (E.numbers row.now) (E.numbers table.now) (E.numbers list.now) }
+    requires p_in_bounds { (p < length (E.numbers row.now)) × (h < length heads.now) × (length heads.now ≤ 16384) }
+    requires lasting { (f : Forest) → Shown f (E.numbers row.now) (E.numbers table.now) → Lasting f (E.numbers list.now) heads.now (length heads.now - 512) (p + 1) }
+    ensures { (f : Forest) → Shown f (E.numbers row.now) (E.numbers table.now) → Finds f (E.numbers list.now) p (get_or heads.now h 0) result }
 {
-    let mut r = wide(heads[h]);
+    let mut r = usize::from(heads[h]);
+    // Stays a loop by index: the next of the drawer is where the list says.
     while 0 < r {
         if same_last(row, table, list, p, r) {
-            return Found::At(r);
+            return Some(r);
         }
-        r = wide(list[r]) - 32768;
+        r = index_at(list, r) - 32768;
     }
-    Found::Nothing
+    None
 }
 
 // The entry of p, which is bare: the last place of its subtree, if that is found in the chain of drawer h; else p is put before the
 // others of that chain. The answer is the first last place from p on, where `newest` is that behind p.
-fn place_in(
-    row: &[u16],
-    table: &[u16],
-    list: &mut [u16],
+fn place_in<E: Piece>(
+    row: &[E],
+    table: &[E],
+    list: &mut [E],
     heads: &mut [u16],
     h: usize,
     p: usize,
     newest: usize,
 ) -> usize
-    requires seen { Seen row.now table.now list.old }
-    requires p_in_bounds { (p < length row.now) × (h < length heads.old) × Drawers heads.old }
-    requires fact { (f : Forest) → Shown f row.now table.now → Open f list.old heads.old (length heads.old - 512) p newest h }
-    ensures placed { (f : Forest) → Shown f row.now table.now → Placed f list.new heads.new (length heads.old - 512) p result }
-    ensures list_unchanged { drop (length row.now) list.new ≡ drop (length row.now) list.old }
+    requires seen { Seen (E.numbers row.now) (E.numbers table.now) (E.numbers list.old) }
+    requires p_in_bounds { (p < length (E.numbers row.now)) × (h < length heads.old) × Drawers heads.old }
+    requires fact { (f : Forest) → Shown f (E.numbers row.now) (E.numbers table.now) → Open f (E.numbers list.old) heads.old (length heads.old - 512) p newest h }
+    ensures placed { (f : Forest) → Shown f (E.numbers row.now) (E.numbers table.now) → Placed f (E.numbers list.new) heads.new (length heads.old - 512) p result }
+    ensures rewrote { Rewrote (length (E.numbers row.now)) (E.numbers list.old) (E.numbers list.new) }
+    ensures odd { E.odd list.new ≡ E.odd list.old }
 {
     match find_last(row, table, list, heads, h, p) {
-        Found::At(r) => {
-            list[p] = r as u16;
+        Some(r) => {
+            E::put_number(list, p, r as u16);
             newest
         }
-        Found::Nothing => {
-            list[p] = 32768 + heads[h];
+        None => {
+            E::put_number(list, p, 32768 + heads[h]);
             heads[h] = p as u16;
             p
         }
@@ -177,42 +180,44 @@ fn place_in(
 }
 
 // The same for a leaf, whose drawer is told by its symbol.
-fn place_leaf(
-    row: &[u16],
-    table: &[u16],
-    list: &mut [u16],
+fn place_leaf<E: Piece>(
+    row: &[E],
+    table: &[E],
+    list: &mut [E],
     heads: &mut [u16],
     p: usize,
     newest: usize,
 ) -> usize
-    requires seen { Seen row.now table.now list.old }
-    requires p_in_bounds { (p < length row.now) × (get_or table.now p 0 < p + 2) × Drawers heads.old }
-    requires placed { (f : Forest) → Shown f row.now table.now → Placed f list.old heads.old (length heads.old - 512) (p + 1) newest }
-    ensures placed_2 { (f : Forest) → Shown f row.now table.now → Placed f list.new heads.new (length heads.old - 512) p result }
-    ensures list_unchanged { drop (length row.now) list.new ≡ drop (length row.now) list.old }
+    requires seen { Seen (E.numbers row.now) (E.numbers table.now) (E.numbers list.old) }
+    requires p_in_bounds { (p < length (E.numbers row.now)) × (get_or (E.numbers table.now) p 0 < p + 2) × Drawers heads.old }
+    requires placed { (f : Forest) → Shown f (E.numbers row.now) (E.numbers table.now) → Placed f (E.numbers list.old) heads.old (length heads.old - 512) (p + 1) newest }
+    ensures placed_2 { (f : Forest) → Shown f (E.numbers row.now) (E.numbers table.now) → Placed f (E.numbers list.new) heads.new (length heads.old - 512) p result }
+    ensures rewrote { Rewrote (length (E.numbers row.now)) (E.numbers list.old) (E.numbers list.new) }
+    ensures odd { E.odd list.new ≡ E.odd list.old }
 {
-    let h = wide(symbol_at(row, p) % 512);
+    let h = usize::from(E::number_at(row, p) % 512);
     place_in(row, table, list, heads, h, p, newest)
 }
 
 // The same for a position with children and no last place below it.
-fn place_bare(
-    row: &[u16],
-    table: &[u16],
-    list: &mut [u16],
+fn place_bare<E: Piece>(
+    row: &[E],
+    table: &[E],
+    list: &mut [E],
     heads: &mut [u16],
     p: usize,
     newest: usize,
 ) -> usize
-    requires seen { Seen row.now table.now list.old }
-    requires p_in_bounds { (p < length row.now) × (p + 2 ≤ get_or table.now p 0) × (get_or table.now p 0 ≤ newest) × Drawers heads.old }
-    requires placed { (f : Forest) → Shown f row.now table.now → Placed f list.old heads.old (length heads.old - 512) (p + 1) newest }
-    ensures placed_2 { (f : Forest) → Shown f row.now table.now → Placed f list.new heads.new (length heads.old - 512) p result }
-    ensures list_unchanged { drop (length row.now) list.new ≡ drop (length row.now) list.old }
+    requires seen { Seen (E.numbers row.now) (E.numbers table.now) (E.numbers list.old) }
+    requires p_in_bounds { (p < length (E.numbers row.now)) × (p + 2 ≤ get_or (E.numbers table.now) p 0) × (get_or (E.numbers table.now) p 0 ≤ newest) × Drawers heads.old }
+    requires placed { (f : Forest) → Shown f (E.numbers row.now) (E.numbers table.now) → Placed f (E.numbers list.old) heads.old (length heads.old - 512) (p + 1) newest }
+    ensures placed_2 { (f : Forest) → Shown f (E.numbers row.now) (E.numbers table.now) → Placed f (E.numbers list.new) heads.new (length heads.old - 512) p result }
+    ensures rewrote { Rewrote (length (E.numbers row.now)) (E.numbers list.old) (E.numbers list.new) }
+    ensures odd { E.odd list.new ≡ E.odd list.old }
 {
     match seek(row, table, list, p) {
         Sought::Told(r) => {
-            list[p] = r as u16;
+            E::put_number(list, p, r as u16);
             newest
         }
         Sought::Sign(sign) => {
@@ -224,23 +229,24 @@ fn place_bare(
 
 // The entry of p is filled in, where those behind it are. Where a last place stands below p, so is p one, and it is not looked up: what
 // is equal to it is told by its children.
-fn place_last(
-    row: &[u16],
-    table: &[u16],
-    list: &mut [u16],
+fn place_last<E: Piece>(
+    row: &[E],
+    table: &[E],
+    list: &mut [E],
     heads: &mut [u16],
     p: usize,
     newest: usize,
 ) -> usize
-    requires seen { Seen row.now table.now list.old }
-    requires p_in_bounds { (p < length row.now) × Drawers heads.old }
-    requires placed { (f : Forest) → Shown f row.now table.now → Placed f list.old heads.old (length heads.old - 512) (p + 1) newest }
-    ensures placed_2 { (f : Forest) → Shown f row.now table.now → Placed f list.new heads.new (length heads.old - 512) p result }
-    ensures list_unchanged { drop (length row.now) list.new ≡ drop (length row.now) list.old }
+    requires seen { Seen (E.numbers row.now) (E.numbers table.now) (E.numbers list.old) }
+    requires p_in_bounds { (p < length (E.numbers row.now)) × Drawers heads.old }
+    requires placed { (f : Forest) → Shown f (E.numbers row.now) (E.numbers table.now) → Placed f (E.numbers list.old) heads.old (length heads.old - 512) (p + 1) newest }
+    ensures placed_2 { (f : Forest) → Shown f (E.numbers row.now) (E.numbers table.now) → Placed f (E.numbers list.new) heads.new (length heads.old - 512) p result }
+    ensures rewrote { Rewrote (length (E.numbers row.now)) (E.numbers list.old) (E.numbers list.new) }
+    ensures odd { E.odd list.new ≡ E.odd list.old }
 {
-    let end = wide(table[p]);
+    let end = index_at(table, p);
     if newest < end {
-        list[p] = 32768;
+        E::put_number(list, p, 32768);
         return p;
     }
     if end < p + 2 {
@@ -250,107 +256,81 @@ fn place_last(
 }
 
 // The entries are filled in from right to left, over heads that lead nowhere yet.
-fn fill_lasts(row: &[u16], table: &[u16], list: &mut [u16], heads: &mut [u16])
-    requires seen { Seen row.now table.now list.old }
+fn fill_lasts<E: Piece>(row: &[E], table: &[E], list: &mut [E], heads: &mut [u16])
+    requires seen { Seen (E.numbers row.now) (E.numbers table.now) (E.numbers list.old) }
     requires drawers { Drawers heads.old × ((h : ℕ) → get_or heads.old h 0 ≡ 0) }
-    ensures naming { (f : Forest) → Shown f row.now table.now → Naming f list.new 0 }
-    ensures list_unchanged { drop (length row.now) list.new ≡ drop (length row.now) list.old }
+    ensures naming { (f : Forest) → Shown f (E.numbers row.now) (E.numbers table.now) → Naming f (E.numbers list.new) 0 }
+    ensures rewrote { Rewrote (length (E.numbers row.now)) (E.numbers list.old) (E.numbers list.new) }
+    ensures odd { E.odd list.new ≡ E.odd list.old }
 {
-    let mut newest = row.len();
-    let mut p = row.len();
-    while 0 < p {
-        p -= 1;
+    let mut newest = E::count(row);
+    for p in (0..E::count(row)).rev() {
         newest = place_last(row, table, list, heads, p, newest);
     }
 }
 
 // The last place of p, by its entry v.
-pub fn last_place(v: usize, p: usize) -> usize
+fn last_place(v: usize, p: usize) -> usize
     ensures { result ≡ pick (ltb v 32768) v p }
 {
     if v < 32768 { v } else { p }
 }
 
 // Position p gets its first place: the one noted at its last place; or p itself, which is then noted there.
-fn name_at(list: &mut [u16], p: usize)
-    requires { (f : Forest) × Nameable f list.old p }
-    ensures { (f : Forest) → Nameable f list.old p → Named f list.old list.new p }
+fn name_at<E: Piece>(list: &mut [E], p: usize)
+    requires { (f : Forest) × Nameable f (E.numbers list.old) p }
+    ensures named { (f : Forest) → Nameable f (E.numbers list.old) p → Named f (E.numbers list.old) (E.numbers list.new) p }
+    ensures odd { E.odd list.new ≡ E.odd list.old }
 {
-    let last = last_place(wide(list[p]), p);
-    let noted = wide(list[last]);
+    let last = last_place(index_at(list, p), p);
+    let noted = index_at(list, last);
     if noted < 49152 {
-        list[last] = (49152 + p) as u16;
-        list[p] = p as u16;
+        E::put_number(list, last, (49152 + p) as u16);
+        E::put_number(list, p, p as u16);
         return;
     }
-    list[p] = (noted - 49152) as u16;
+    E::put_number(list, p, (noted - 49152) as u16);
 }
 
 // The last places of the n positions at the front become first places, from left to right.
-fn name_all(list: &mut [u16], n: usize)
-    requires naming { (f : Forest) × Naming f list.old 0 × (size f ≡ n) }
-    requires n_bound { (n ≤ 16384) × (n ≤ length list.old) }
-    ensures { (f : Forest) → Naming f list.old 0 → size f ≡ n → AllNamed f list.old list.new n }
+fn name_all<E: Piece>(list: &mut [E], n: usize)
+    requires naming { (f : Forest) × Naming f (E.numbers list.old) 0 × (size f ≡ n) }
+    requires n_bound { (n ≤ 16384) × (n ≤ length (E.numbers list.old)) }
+    ensures all_named { (f : Forest) → Naming f (E.numbers list.old) 0 → size f ≡ n → AllNamed f (E.numbers list.old) (E.numbers list.new) n }
+    ensures odd { E.odd list.new ≡ E.odd list.old }
 {
-    let mut p: usize = 0;
-    while p < n {
+    for p in 0..n {
         name_at(list, p);
-        p += 1;
     }
 }
 
 // The classes of the row, whose table is right, are written to the front of the list, over heads that lead nowhere yet; later
-// places stay.
-fn fill_over(row: &[u16], table: &[u16], classes: &mut [u16], heads: &mut [u16])
-    requires by_index { (A : List ℕ) × Right A row.now table.now }
-    requires row_in_bounds { length row.now ≤ length classes.old }
+// places stay. Row, table and list may be the bytes of numbers.
+pub fn fill_over<E: Piece>(row: &[E], table: &[E], classes: &mut [E], heads: &mut [u16])
+    requires by_index { (A : List ℕ) × Right A (E.numbers row.now) (E.numbers table.now) }
+    requires row_in_bounds { length (E.numbers row.now) ≤ length (E.numbers classes.old) }
     requires drawers { Drawers heads.old × ((h : ℕ) → get_or heads.old h 0 ≡ 0) }
-    ensures { (A : List ℕ) → Right A row.now table.now → classes.new ≡ written classes.old 0 (classesOfRow A row.now) }
+    ensures filled { (A : List ℕ) → Right A (E.numbers row.now) (E.numbers table.now) → E.numbers classes.new ≡ written (E.numbers classes.old) 0 (classesOfRow A (E.numbers row.now)) }
+    ensures odd { E.odd classes.new ≡ E.odd classes.old }
 {
     fill_lasts(row, table, classes, heads);
-    name_all(classes, row.len());
+    name_all(classes, E::count(row));
 }
 
 // A row of at most so many symbols does with few heads.
 pub const SHORT: usize = 512;
 
-// Heads that lead nowhere, few and many: 5 KiB at most.
+// So many heads are few, and so many are many: 5 KiB at most.
 pub const FEW: usize = 576;
-
-pub fn few_heads() -> [u16; FEW]
-    ensures { (few_heads ≡ length result) × ((h : ℕ) → get_or result h 0 ≡ 0) }
-{
-    [0u16; FEW]
-}
 
 pub const MANY: usize = 2_560;
 
-pub fn many_heads() -> [u16; MANY]
-    ensures { (many_heads ≡ length result) × ((h : ℕ) → get_or result h 0 ≡ 0) }
-{
-    [0u16; MANY]
-}
-
-// The heads lead nowhere any more.
-pub fn clear_heads(heads: &mut [u16])
-    ensures { (length heads.new ≡ length heads.old) × ((h : ℕ) → get_or heads.new h 0 ≡ 0) }
-{
-    let mut h: usize = 0;
-    while h < heads.len() {
-        heads[h] = 0;
-        h += 1;
-    }
-}
-
 // How many heads a row of n symbols takes of a room with so many places.
-pub fn heads_of(n: usize, places: usize) -> usize
+fn heads_of(n: usize, places: usize) -> usize
     requires { few_heads ≤ places }
     ensures { (few_heads ≤ result) × (result ≤ many_heads) × (result ≤ places) }
 {
-    if n <= SHORT {
-        return FEW;
-    }
-    if places <= MANY { places } else { MANY }
+    if n <= SHORT { FEW } else { places.min(MANY) }
 }
 
 // The classes of the row, whose table is right, are written to the front of the list; later places stay. The heads are taken from a
@@ -361,30 +341,32 @@ pub fn fill_beside(row: &[u16], table: &[u16], classes: &mut [u16], room: &mut [
     ensures { (A : List ℕ) → Right A row.now table.now → classes.new ≡ written classes.old 0 (classesOfRow A row.now) }
 {
     let k = heads_of(row.len(), room.len());
-    clear_heads(&mut room[..k]);
-    fill_over(row, table, classes, &mut room[..k]);
+    let heads = &mut room[..k];
+    heads.fill(0);
+    fill_over(row, table, classes, heads);
 }
 
-// The same with few heads, for a short row.
-pub fn fill_short(row: &[u16], table: &[u16], classes: &mut [u16])
+// The same with N heads of its own. Not inlined, so that a call that takes few of them does not pay for many.
+#[inline(never)]
+fn fill_in<const N: usize>(row: &[u16], table: &[u16], classes: &mut [u16])
     requires by_index { (A : List ℕ) × Right A row.now table.now }
     requires row_in_bounds { length row.now ≤ length classes.old }
+    requires n_bound { (512 < N) × (N ≤ 16384) }
     ensures { (A : List ℕ) → Right A row.now table.now → classes.new ≡ written classes.old 0 (classesOfRow A row.now) }
 {
-    let mut heads = few_heads();
+    let mut heads = [0u16; N];
     fill_over(row, table, classes, &mut heads);
 }
 
-// The same for any row.
+// The same with heads of its own, few for a short row.
 pub fn fill_classes(row: &[u16], table: &[u16], classes: &mut [u16])
     requires by_index { (A : List ℕ) × Right A row.now table.now }
     requires row_in_bounds { length row.now ≤ length classes.old }
     ensures { (A : List ℕ) → Right A row.now table.now → classes.new ≡ written classes.old 0 (classesOfRow A row.now) }
 {
     if row.len() <= SHORT {
-        fill_short(row, table, classes);
-        return;
+        fill_in::<FEW>(row, table, classes);
+    } else {
+        fill_in::<MANY>(row, table, classes);
     }
-    let mut heads = many_heads();
-    fill_over(row, table, classes, &mut heads);
 }

@@ -8,7 +8,7 @@
 ghost use Rattle.std.specs.Prelude.{◌≡◌, ◌≤◌, length};
 
 use script::{count, list_at, number, text, title};
-use sparrowhem::{Check, Fits, Found, Refusal, SheetFound};
+use sparrowhem::{Programme, Refusal};
 use std::io;
 use std::io::Write;
 
@@ -17,7 +17,7 @@ const PATTERNS: usize = 14;
 
 // How many positions were tried and how many of them match, how many calls were refused alike, how many classes were compared,
 // and how often the two differ.
-#[derive(Clone, Copy)]
+#[derive(Clone, Copy, Default)]
 struct Tally {
     positions: usize,
     matches: usize,
@@ -27,10 +27,7 @@ struct Tally {
 }
 
 fn more(n: usize, yes: bool) -> usize {
-    if yes {
-        return n.wrapping_add(1);
-    }
-    n
+    n.wrapping_add(usize::from(yes))
 }
 
 impl Tally {
@@ -57,30 +54,6 @@ impl Tally {
     }
 }
 
-// Is p among the first n numbers?
-fn listed(numbers: &[u16], n: usize, p: usize) -> bool {
-    let mut i = 0;
-    while i < numbers.len() {
-        if n <= i {
-            return false;
-        }
-        if numbers[i] as usize == p {
-            return true;
-        }
-        i += 1;
-    }
-    false
-}
-
-// Does the plain matcher say so?
-fn agrees(answer: Fits, found: bool) -> bool {
-    match answer {
-        Fits::Yes => found,
-        Fits::No => !found,
-        Fits::Refused(_) => false,
-    }
-}
-
 // Every position of a row, of which the first n numbers of `out` are the matches.
 fn answered(
     arities: &[u16],
@@ -91,33 +64,18 @@ fn answered(
     tally: Tally,
 ) -> Tally {
     let mut sum = tally;
+    // Stays a loop over places: each place is asked about.
     for p in 0..row.len() {
-        let found = listed(out, n, p);
-        let same = agrees(sparrowhem::plain_match(arities, row, pattern, p), found);
+        let found = out.iter().take(n).any(|&q| usize::from(q) == p);
+        let same = sparrowhem::plain_match(arities, row, pattern, p) == Ok(found);
         sum = sum.position(found, same);
     }
     sum
 }
 
-fn same(a: Refusal, b: Refusal) -> bool {
-    if sparrowhem::number_of(a) == sparrowhem::number_of(b) {
-        return sparrowhem::place_of(a) == sparrowhem::place_of(b);
-    }
-    false
-}
-
-// Does the plain matcher refuse alike?
-fn alike(answer: Fits, refusal: Refusal) -> bool {
-    match answer {
-        Fits::Yes => false,
-        Fits::No => false,
-        Fits::Refused(r) => same(r, refusal),
-    }
-}
-
 // What find answers, against the plain matcher.
 fn judged(
-    answer: Found,
+    answer: Result<usize, Refusal>,
     arities: &[u16],
     list: &[u16],
     pattern: &[u16],
@@ -125,21 +83,41 @@ fn judged(
     tally: Tally,
 ) -> Tally {
     match answer {
-        Found::Refused(r) => tally.refusal(alike(
-            sparrowhem::plain_match(arities, list, pattern, 0),
-            r,
-        )),
-        Found::Matches(n) => answered(arities, list, pattern, out, n, tally),
+        Err(r) => tally.refusal(sparrowhem::plain_match(arities, list, pattern, 0) == Err(r)),
+        Ok(n) => answered(arities, list, pattern, out, n, tally),
     }
+}
+
+// What is kept beside a row of up to seven symbols.
+#[derive(Clone, Copy, Default)]
+struct Beside {
+    table: [u16; 7],
+    classes: [u16; 7],
+}
+
+impl Beside {
+    // The row with it.
+    fn programme<'a>(&'a self, row: &'a [u16]) -> Programme<'a> {
+        Programme {
+            row,
+            table: &self.table,
+            classes: &self.classes,
+        }
+    }
+}
+
+// What build leaves beside a list of up to seven numbers; `None` if it is no row.
+fn built(arities: &[u16], list: &[u16]) -> Option<Beside> {
+    let mut beside = Beside::default();
+    sparrowhem::build(arities, list, &mut beside.table, &mut beside.classes).ok()?;
+    Some(beside)
 }
 
 // One list of up to seven numbers with one pattern.
 fn compared(arities: &[u16], list: &[u16], pattern: &[u16], tally: Tally) -> Tally {
-    let mut table = [0u16; 7];
-    let mut classes = [0u16; 7];
-    sparrowhem::build(arities, list, &mut table, &mut classes);
+    let beside = built(arities, list).unwrap_or_default();
     let mut out = [0u16; 7];
-    let answer = sparrowhem::find(arities, list, &table, &classes, pattern, &mut out);
+    let answer = sparrowhem::find(arities, beside.programme(list), pattern, &mut out);
     judged(answer, arities, list, pattern, &out, tally)
 }
 
@@ -157,8 +135,8 @@ fn parts(case: &[u16], row: &[u16], positions: &[u16], results: &[u16], tally: T
     let mut sum = tally;
     let mut at = 0;
     for i in 0..PATTERNS {
-        let n = entry(results, 3 * i + 2) as usize;
-        let begin = rows::shorter(at, positions.len());
+        let n = entry(results, 3 * i + 2);
+        let begin = at.min(positions.len());
         if entry(results, 3 * i) == 0 {
             sum = answered(
                 list_at(case, 0),
@@ -176,62 +154,38 @@ fn parts(case: &[u16], row: &[u16], positions: &[u16], results: &[u16], tally: T
 
 // One list with the sheet of all patterns.
 fn sheet(case: &[u16], list: &[u16], tally: Tally) -> Tally {
-    let mut table = [0u16; 7];
-    let mut classes = [0u16; 7];
     let arities = list_at(case, 0);
-    sparrowhem::build(arities, list, &mut table, &mut classes);
+    let beside = built(arities, list).unwrap_or_default();
     let mut positions = [0u16; 7 * PATTERNS];
     let mut results = [0u16; 3 * PATTERNS];
     let answer = sparrowhem::sheet(
         arities,
-        list,
-        &table,
-        &classes,
+        beside.programme(list),
         list_at(case, 1),
         list_at(case, 2),
         &mut positions,
         &mut results,
     );
     match answer {
-        SheetFound::Refused(r) => tally.refusal(alike(
-            sparrowhem::plain_match(arities, list, list_at(case, 3), 0),
-            r,
-        )),
-        SheetFound::Matches(_, _) => parts(case, list, &positions, &results, tally),
-    }
-}
-
-fn is_fine(answer: Check) -> bool {
-    match answer {
-        Check::Fine => true,
-        Check::Refused(_) => false,
+        Err(r) => {
+            tally.refusal(sparrowhem::plain_match(arities, list, list_at(case, 3), 0) == Err(r))
+        }
+        Ok(_) => parts(case, list, &positions, &results, tally),
     }
 }
 
 // The number at a place; 0 past the end.
-fn entry(numbers: &[u16], i: usize) -> u16 {
-    if i < numbers.len() { numbers[i] } else { 0 }
-}
-
-// Do the symbols from p up to `end` stand from q on, too?
-fn stands(row: &[u16], q: usize, p: usize, end: usize) -> bool
-    requires { (q ≤ p) × (end ≤ length row.now) }
-{
-    for i in p..end {
-        if row[i] != row[q + (i - p)] {
-            return false;
-        }
-    }
-    true
+fn entry(numbers: &[u16], i: usize) -> usize {
+    usize::from(numbers.get(i).copied().unwrap_or(0))
 }
 
 // The first position where the symbols from p up to `end` stand. If they are a subtree's, an equal one stands there: no row of a
 // tree begins with that of another.
 fn first_place(row: &[u16], p: usize, end: usize) -> usize
-    requires { end ≤ length row.now }
+    requires { (p ≤ end) × (end ≤ length row.now) }
 {
     for q in 0..p {
-        if stands(row, q, p, end) {
+        if row[q..].starts_with(&row[p..end]) {
             return q;
         }
     }
@@ -241,31 +195,25 @@ fn first_place(row: &[u16], p: usize, end: usize) -> usize
 // The class of every position of a row with its table.
 fn each_class(row: &[u16], table: &[u16], classes: &[u16], tally: Tally) -> Tally {
     let mut sum = tally;
+    // Stays a loop over places: each place is asked about.
     for p in 0..row.len() {
-        let end = rows::shorter(entry(table, p) as usize, row.len());
-        sum = sum.class(entry(classes, p) as usize == first_place(row, p, end));
+        let end = entry(table, p).clamp(p, row.len());
+        sum = sum.class(entry(classes, p) == first_place(row, p, end));
     }
     sum
 }
 
 // The classes that build leaves, if the list is a row.
 fn classed(arities: &[u16], list: &[u16], tally: Tally) -> Tally {
-    let mut table = [0u16; 7];
-    let mut classes = [0u16; 7];
-    if is_fine(sparrowhem::build(arities, list, &mut table, &mut classes)) {
-        return each_class(list, &table, &classes, tally);
+    match built(arities, list) {
+        Some(beside) => each_class(list, &beside.table, &beside.classes, tally),
+        None => tally,
     }
-    tally
 }
 
 // A short list is tried, and a longer one if it is a row.
 fn worth(arities: &[u16], list: &[u16]) -> bool {
-    if list.len() < 5 {
-        return true;
-    }
-    let mut table = [0u16; 7];
-    let mut classes = [0u16; 7];
-    is_fine(sparrowhem::build(arities, list, &mut table, &mut classes))
+    list.len() < 5 || built(arities, list).is_some()
 }
 
 fn tried(case: &[u16], list: &[u16], tally: Tally) -> Tally {
@@ -282,9 +230,10 @@ fn spelt(which: usize) -> [u16; 7]
 {
     let mut list = [0u16; 7];
     let mut left = which;
-    for i in 0..7usize {
-        list[i] = (left % 6) as u16;
-        left = left / 6;
+    for digit in &mut list {
+        // Stays `as`: a remainder fits, and `try_from` would answer an error that no call can give.
+        *digit = (left % 6) as u16;
+        left /= 6;
     }
     list
 }
@@ -303,16 +252,10 @@ fn lists_of(case: &[u16], n: usize, many: usize, tally: Tally) -> Tally
 
 // The lists of one to seven numbers.
 fn all_lists(case: &[u16]) -> Tally {
-    let mut sum = Tally {
-        positions: 0,
-        matches: 0,
-        refused: 0,
-        classes: 0,
-        apart: 0,
-    };
-    let many: [usize; 8] = [1, 6, 36, 216, 1296, 7776, 46656, 279936];
-    for n in 1..8usize {
-        sum = lists_of(case, n, many[n], sum);
+    let mut sum = Tally::default();
+    let all: [usize; 7] = [6, 36, 216, 1296, 7776, 46656, 279936];
+    for (i, &many) in all.iter().enumerate() {
+        sum = lists_of(case, i + 1, many, sum);
     }
     sum
 }

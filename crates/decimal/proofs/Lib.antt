@@ -1,5 +1,6 @@
 pub mod Numerals
 pub mod Writing
+pub mod Putting
 pub mod Runs
 pub mod Reading
 pub mod Lining

@@ -16,8 +16,8 @@ use Rattle.rows.specs.Row.{pick}
 use Rattle.decimal.specs.Lines.{numeral, number_most}
 use Rattle.decimal.specs.Promises.{is_digit, Digits, value}
 use Rattle.decimal.specs.Inside.{ends_number, Stands, NumberAt}
-use Rattle.decimal.specs.declared.Number.{Number}
-use Rattle.decimal.specs.declared.Number.TheVariants as number
+use Rattle.decimal.specs.declared.Cursor.{Cursor}
+use Rattle.std.specs.Prelude.{Result, Ok, Err}
 use Rattle.decimal.proofs.Numerals.{numeral_digits, numeral-value, numeral_head, numeral_some, numeral_one, numeral_grows, value-append, value_grows, digit_bounds}
 use Rattle.decimal.proofs.Runs.{Run, run, ends_no_digit}
 
@@ -93,12 +93,12 @@ module _ (b : List ℕ) (start : ℕ) where
       go (x ∷ w) k d e = never (is_digit x) d.0 (ap is_digit (sym (front b start _ _ e)) ∙ h)
 
   -- what `ended` answers for the digits that were read
-  pub ended_is : (at line n : ℕ) (r : Number) → n ≤ number_most → drop start b ≡ numeral n ++ drop at b → Last b n at
-      → r ≡ pick (ends_number (get_or b at 0)) (number.Value n (record { at = at; line = line })) (number.Faulty line)
+  pub ended_is : (at line n : ℕ) (r : Result (ℕ × Cursor) ℕ) → n ≤ number_most → drop start b ≡ numeral n ++ drop at b → Last b n at
+      → r ≡ pick {X = Result (ℕ × Cursor) ℕ} (ends_number (get_or b at 0)) (Ok (n, record { at = at; line = line })) (Err line)
       → NumberAt b (record { at = start; line = line }) r
   ended_is at line n r h e last q = go (ends_number (get_or b at 0)) refl q
     where
-      go : (t : Bool) → ends_number (get_or b at 0) ≡ t → r ≡ pick t (number.Value n (record { at = at; line = line })) (number.Faulty line)
+      go : (t : Bool) → ends_number (get_or b at 0) ≡ t → r ≡ pick {X = Result (ℕ × Cursor) ℕ} t (Ok (n, record { at = at; line = line })) (Err line)
           → NumberAt b (record { at = start; line = line }) r
       go true k p = rw p ((record { small = h; text = e; ended = k }, refl))
       go false k p = rw p (((λ m end s. none_ended n m end at e last k s), refl))

@@ -1,14 +1,10 @@
 -- Inside: no public contract cites what stands in this file, and no reader has to believe it.
 -- What reading a number and a line answers, and what printing leaves in a buffer.
-use Rattle.std.specs.Prelude.{ℕ, ◌+◌, ◌≤◌, ◌≡◌, List, ◌++◌, Bool, true, eqb, length, get_or, drop}
+use Rattle.std.specs.Prelude.{ℕ, ◌+◌, ◌≤◌, ◌≡◌, List, ◌++◌, Bool, true, eqb, length, get_or, drop, Result, Ok, Err}
 use Rattle.rows.specs.Row.{pick}
 use Rattle.rows.specs.Buffers.{written}
 use Rattle.decimal.specs.Lines.{numeral, number_most, line, Small}
 use Rattle.decimal.specs.declared.Cursor.{Cursor}
-use Rattle.decimal.specs.declared.Number.{Number}
-use Rattle.decimal.specs.declared.Number.TheVariants as number
-use Rattle.decimal.specs.declared.Line.{Line}
-use Rattle.decimal.specs.declared.Line.TheVariants as read
 
 -- a space or a newline
 abbrev pub ends_number : ℕ → Bool
@@ -21,9 +17,9 @@ pub record Stands (b : List ℕ) (at n end : ℕ) : Type 0 where
   pub ended : ends_number (get_or b end 0) ≡ true
 
 -- what reading a number at a cursor answers: the number and the cursor after it; or its line, if no number stands there
-abbrev pub NumberAt : List ℕ → Cursor → Number → Type 0
-NumberAt b c (number.Value n d) = Stands b c.at n d.at × (d.line ≡ c.line)
-NumberAt b c (number.Faulty k) = ((n end : ℕ) → Stands b c.at n end → ⊥) × (k ≡ c.line)
+abbrev pub NumberAt : List ℕ → Cursor → Result (ℕ × Cursor) ℕ → Type 0
+NumberAt b c (Ok (n, d)) = Stands b c.at n d.at × (d.line ≡ c.line)
+NumberAt b c (Err k) = ((n end : ℕ) → Stands b c.at n end → ⊥) × (k ≡ c.line)
 
 -- the text b has the line of the list ns at position `at`, and goes on at `end`
 pub record HasLine (b : List ℕ) (at : ℕ) (ns : List ℕ) (end : ℕ) : Type 0 where
@@ -41,9 +37,9 @@ pub record LineRead (b : List ℕ) (c : Cursor) (y : List ℕ) (i k : ℕ) (d : 
 
 -- What reading a line at a cursor answers: the place behind its last number and the cursor of the next line; or its own
 -- number, if no line of numbers stands there. (Then the buffer may hold numbers from the front of the faulty line.)
-abbrev pub LineAt : List ℕ → Cursor → List ℕ → ℕ → Line → List ℕ → Type 0
-LineAt b c y i (read.Numbers k d) y' = LineRead b c y i k d y'
-LineAt b c y i (read.Faulty k) y' = ((ns : List ℕ) (end : ℕ) → HasLine b c.at ns end → ⊥) × (k ≡ c.line)
+abbrev pub LineAt : List ℕ → Cursor → List ℕ → ℕ → Result (ℕ × Cursor) ℕ → List ℕ → Type 0
+LineAt b c y i (Ok (k, d)) y' = LineRead b c y i k d y'
+LineAt b c y i (Err k) y' = ((ns : List ℕ) (end : ℕ) → HasLine b c.at ns end → ⊥) × (k ≡ c.line)
 
 -- LineRoom for the numbers of the text b from the cursor on, behind the i numbers before it: each number takes two bytes. And
 -- each line before it takes a byte.

@@ -1,3 +1,4 @@
 pub mod Lines
 pub mod Inside
 pub mod Promises
+pub mod Printing

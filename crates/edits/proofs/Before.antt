@@ -28,7 +28,7 @@ module _ (t : List ℕ) (n p e to : ℕ) (m : Movable t n p e to) where
       ∙ ap (moved e to) (get_or-take p t k 0 h)
 
   -- each is a 16-bit number again
-  before_small : (k : ℕ) → k < p → moved e to (get_or t k 0) < 65536
+  pub before_small : (k : ℕ) → k < p → moved e to (get_or t k 0) < 65536
   before_small k h =
       let w = m.within k (omega (arith, m.room.starts, m.room.stops)) in
       below (get_or t k 0) e

@@ -1,5 +1,6 @@
 -- From a row and its table, spliced, to the tree with a subtree replaced.
 -- Assumes nothing.
+use Rattle.std.specs.Prelude.{Ok}
 use Prim.Native.Nat.{ℕ, ◌+◌, ◌-◌, ◌≤◌, ◌<◌}
 use mathlib.Core.Path.{◌≡◌, sym, ap, ap₂, ◌∙◌, subst}
 use mathlib.Core.List.{List}
@@ -13,7 +14,6 @@ use Rattle.rows.specs.Classes.{classes_of, classes as classesOfRow}
 use Rattle.rows.specs.Row.{verdict, allowed}
 use Rattle.rows.specs.Reading.{Accepted}
 use Rattle.rows.specs.declared.Leaves.TheVariants.{Symbols}
-use Rattle.rows.specs.declared.Verdict.TheVariants.{Whole}
 use Rattle.rows.proofs.Tree.{length-prefix, length-ends}
 use Rattle.rows.proofs.Parse.{prefix-parse, size-parse, parse-prefix}
 use Rattle.rows.proofs.Accept.{parse_whole, ranked_parse, count-parse, lone, whole_of_row}
@@ -30,7 +30,7 @@ use Rattle.edits.proofs.Put.{put-size, put-prefix, put_count, put_ranked}
 use Rattle.edits.proofs.Ends.{put-ends, end_at}
 
 -- a ranked forest of one tree is read as a row
-accepted_forest : (A : List ℕ) (ok : ℕ → Bool) (f : Forest) → Ranked A ok f → count f ≡ 1 → verdict A ok 1 0 (prefix f) ≡ Whole
+accepted_forest : (A : List ℕ) (ok : ℕ → Bool) (f : Forest) → Ranked A ok f → count f ≡ 1 → verdict A ok 1 0 (prefix f) ≡ Ok tt
 accepted_forest A ok f ranked one =
     let it = lone f one in
     whole_of_row A ok (prefix f) (record { tree = it.0; ranked = subst (Ranked A ok) it.1 ranked; reads = ap prefix (sym it.1) })

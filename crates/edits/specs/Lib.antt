@@ -2,3 +2,4 @@ pub mod Put
 pub mod Moved
 pub mod Given
 pub mod Replace
+pub mod Buffers

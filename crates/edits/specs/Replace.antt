@@ -2,6 +2,7 @@
 -- What a replacement asks for, and what it leaves.
 use Rattle.std.specs.Prelude.{ℕ, ◌≤◌, ◌<◌, ◌≡◌, List, length, take}
 use Rattle.rows.specs.Limits.{row_most, freed_symbol, freed_entry, freed_class}
+use Rattle.rows.specs.Programme.{Programme}
 use Rattle.rows.specs.Tree.{size, prefix, ends}
 use Rattle.rows.specs.Classes.{classes_of}
 use Rattle.rows.specs.Reading.{Accepted}
@@ -35,3 +36,11 @@ pub record ClassRoom (A row classes : List ℕ) (n : ℕ) (v : List ℕ) (p : �
 -- the list holds the classes of the changed tree, zeros in the places that are freed, and what stood behind them before
 pub record Reclassing (A row classes : List ℕ) (n : ℕ) (v : List ℕ) (p : ℕ) (classes' : List ℕ) : Type 0 where
   pub classes_now : classes' ≡ renewed classes n freed_class (classes_of (changed A (take n row) p v))
+
+-- what a replacement in a row, its table and its classes asks for
+abbrev pub Changeable : List ℕ → Programme → ℕ → List ℕ → ℕ → Type 0
+Changeable A P n v p = Replaceable A P.row P.table n v p × ClassRoom A P.row P.classes n v p
+
+-- what it leaves of them, P', and the new length m
+abbrev pub Changing : List ℕ → Programme → ℕ → List ℕ → ℕ → Programme → ℕ → Type 0
+Changing A P n v p P' m = Replacing A P.row P.table n v p P'.row P'.table m × Reclassing A P.row P.classes n v p P'.classes

@@ -4,6 +4,7 @@
 ghost use Rattle.std.specs.Prelude.{◌≡◌, List, map, ℕ, ◌+◌, ◌-◌, ◌≤◌, ◌<◌, length, take, drop, get_or, pos, ◌-ℤ◌};
 ghost use Rattle.rows.specs.Limits.{row_most, freed_symbol, freed_entry, freed_class};
 ghost use Rattle.rows.specs.Tree.{ends};
+ghost use Rattle.rows.specs.Programme.{programme_of};
 ghost use Rattle.rows.specs.Parse.{parse};
 ghost use Rattle.rows.specs.Classes.{classes as classesOfRow};
 ghost use Rattle.rows.specs.Reading.{Accepted};
@@ -15,9 +16,38 @@ ghost use Rattle.buffers.specs.Shift.{shifted, spliced};
 ghost use Rattle.buffers.specs.Renewed.{renewed};
 ghost use Rattle.edits.specs.Moved.{moved, spliced_ends};
 ghost use Rattle.edits.specs.Given.{Room, Movable};
-ghost use Rattle.edits.specs.Replace.{Replaceable, Replacing, ClassRoom, Reclassing};
+ghost use Rattle.edits.specs.Buffers.{buffers_of, SameBuffers};
+ghost use Rattle.edits.specs.Replace.{Replaceable, Replacing, Changeable, Changing};
 
-use rows::{Check, Refusal};
+use rows::{Programme, Refusal};
+
+// In a list of n numbers at the front of its buffer the part from p to e gives way to one that ends at `to`.
+// Stays a buffer with its length n beside it: the memory is the caller's, and fixed.
+#[derive(Clone, Copy, Debug, PartialEq, Eq)]
+struct Gap {
+    n: usize,
+    p: usize,
+    e: usize,
+    to: usize,
+}
+
+impl Gap {
+    // How many numbers stand behind the part.
+    fn rest(self) -> usize
+        requires { self.e ≤ self.n }
+        ensures { result ≡ self.n - self.e }
+    {
+        self.n - self.e
+    }
+
+    // How many numbers the list has then.
+    fn length(self) -> usize
+        requires { (self.e ≤ self.n) × (self.to + (self.n - self.e) ≤ row_most) }
+        ensures { result ≡ self.to + (self.n - self.e) }
+    {
+        self.to + self.rest()
+    }
+}
 
 // Where a subtree that ended at x ends, once one that ended at e ends at `to`.
 fn moved_end(x: u16, e: u16, to: u16) -> u16
@@ -33,60 +63,48 @@ fn move_holders(table: &mut [u16], p: usize, e: u16, to: u16)
     requires { (n : ℕ) × Movable table.old n p e to }
     ensures { table.new ≡ written table.old 0 (map (moved e to) (take p table.old)) }
 {
-    let mut k: usize = 0;
-    while k < p {
-        table[k] = moved_end(table[k], e, to);
-        k += 1;
+    for x in &mut table[..p] {
+        *x = moved_end(*x, e, to);
     }
 }
 
-// The entries of the subtrees that hold the one at p, and those of the tail behind it, which is moved too. Nothing changes
+// The entries of the subtrees that hold the one that gives way, and those of the tail behind it, which is moved too. Nothing changes
 // where the new subtree ends where the old one does.
-fn move_ends(table: &mut [u16], n: usize, p: usize, e: usize, to: usize)
-    requires { Movable table.old n p e to }
-    ensures { table.new ≡ written (written table.old 0 (map (moved e to) (take p table.old))) to (map (shifted e to) (take (n - e) (drop e table.old))) }
+fn move_ends(table: &mut [u16], gap: Gap)
+    requires { Movable table.old gap.n gap.p gap.e gap.to }
+    ensures { table.new ≡ written (written table.old 0 (map (moved gap.e gap.to) (take gap.p table.old))) gap.to (map (shifted gap.e gap.to) (take (gap.n - gap.e) (drop gap.e table.old))) }
 {
-    if e == to {
+    if gap.e == gap.to {
         return;
     }
-    let rest = n - e;
-    move_holders(table, p, e as u16, to as u16);
-    buffers::move_part(table, e, to, rest);
-    buffers::shift(table, to, rest, e as u16, to as u16);
+    // Stays `as`, here and below: the number fits, as a contract says, and `try_from` would answer an error that no call can give.
+    let e = gap.e as u16;
+    let to = gap.to as u16;
+    move_holders(table, gap.p, e, to);
+    buffers::move_part(table, gap.e, gap.to, gap.rest());
+    buffers::shift(table, gap.to, gap.rest(), e, to);
 }
 
-// In the row of n symbols at the front of the buffer, those from p to e give way to `v`; freed places are marked so.
-fn replace_symbols(row: &mut [u16], n: usize, p: usize, e: usize, v: &[u16])
-    requires { Room n p e (p + length v.now) (length row.old) }
-    ensures { row.new ≡ renewed row.old n freed_symbol (spliced (take n row.old) p e v.now) }
+// In the row at the front of the buffer a part gives way to `v`; freed places are marked so.
+fn replace_symbols(row: &mut [u16], gap: Gap, v: &[u16])
+    requires { Room gap.n gap.p gap.e gap.to (length row.old) × (gap.to ≡ gap.p + length v.now) }
+    ensures { row.new ≡ renewed row.old gap.n freed_symbol (spliced (take gap.n row.old) gap.p gap.e v.now) }
 {
-    let to = p + v.len();
-    let rest = n - e;
-    buffers::move_part(row, e, to, rest);
-    buffers::copy_into(&mut row[p..], v);
-    buffers::fill(row, to + rest, n, rows::FREED_SYMBOL);
+    buffers::move_part(row, gap.e, gap.to, gap.rest());
+    buffers::copy_into(&mut row[gap.p..], v);
+    buffers::fill(row, gap.length(), gap.n, rows::FREED_SYMBOL);
 }
 
-// In the table of n entries at the front of the buffer, those from p to e give way to those of the row `v`, and the others
-// move; freed places are marked so. `standing` has room for the ends of `v`.
-fn replace_ends(
-    arities: &[u16],
-    table: &mut [u16],
-    n: usize,
-    p: usize,
-    e: usize,
-    v: &[u16],
-    standing: &mut [u16],
-)
-    requires movable { Movable table.old n p e (p + length v.now) × (length v.now ≤ length standing.old) }
+// In the table at the front of the buffer the entries of a subtree give way to those of the row `v`, and the others move; freed
+// places are marked so. `standing` has room for the ends of `v`.
+fn replace_ends(arities: &[u16], table: &mut [u16], gap: Gap, v: &[u16], standing: &mut [u16])
+    requires movable { Movable table.old gap.n gap.p gap.e gap.to × (gap.to ≡ gap.p + length v.now) × (length v.now ≤ length standing.old) }
     requires accepted { Accepted arities.now v.now }
-    ensures { table.new ≡ renewed table.old n freed_entry (spliced_ends (take n table.old) p e (p + length v.now) (ends p (parse arities.now v.now))) }
+    ensures { table.new ≡ renewed table.old gap.n freed_entry (spliced_ends (take gap.n table.old) gap.p gap.e gap.to (ends gap.p (parse arities.now v.now))) }
 {
-    let to = p + v.len();
-    let rest = n - e;
-    move_ends(table, n, p, e, to);
-    tables::fill_beside(arities, v, table, p, standing);
-    buffers::fill(table, to + rest, n, rows::FREED_ENTRY);
+    move_ends(table, gap);
+    tables::fill_beside(arities, v, table, gap.p, standing);
+    buffers::fill(table, gap.length(), gap.n, rows::FREED_ENTRY);
 }
 
 // In the row of n symbols at the front of its buffer, with its table, the subtree at p gives way to the row `v`. The answer
@@ -103,15 +121,18 @@ fn replace_subtree(
     requires { Replaceable arities.now row.old table.old n v.now p × (length v.now ≤ length standing.old) }
     ensures { Replacing arities.now row.old table.old n v.now p row.new table.new result }
 {
-    let e = table[p] as usize;
-    replace_symbols(row, n, p, e, v);
-    replace_ends(arities, table, n, p, e, v, standing);
-    p + v.len() + (n - e)
+    let e = usize::from(table[p]);
+    let to = p + v.len();
+    let gap = Gap { n, p, e, to };
+    replace_symbols(row, gap, v);
+    replace_ends(arities, table, gap, v, standing);
+    gap.length()
 }
 
 // The classes of the row of m symbols at the front of its buffer, with its table, in a list of which n places were in use;
 // freed places are marked so. Any class may change, also far from the place of a replacement, and so all are filled anew. `room` is
 // for the heads.
+// Stays three lists: row and table are read where the classes are written.
 fn renew_classes(
     row: &[u16],
     table: &[u16],
@@ -127,73 +148,105 @@ fn renew_classes(
     buffers::fill(classes, m, n, rows::FREED_CLASS);
 }
 
+// A row, or the buffer that begins with it, its table and its classes, lent to be changed in place.
+#[derive(Drop)]
+pub struct Buffers<'a> {
+    pub row: &'a mut [u16],
+    pub table: &'a mut [u16],
+    pub classes: &'a mut [u16],
+}
+
+impl Buffers<'_> {
+    // What they hold, to be read.
+    pub fn programme(&self) -> Programme<'_>
+        ensures { programme_of result ≡ buffers_of self.now }
+    {
+        Programme {
+            row: self.row,
+            table: self.table,
+            classes: self.classes,
+        }
+    }
+}
+
 // In the row of n symbols at the front of its buffer, with its table and its classes, the subtree at p gives way to the row
 // `v`. The answer is the new length. `room` is for the ends of `v`, and then for the heads of the classes.
 pub fn replace_beside(
     arities: &[u16],
-    row: &mut [u16],
-    table: &mut [u16],
-    classes: &mut [u16],
+    lent: &mut Buffers,
     n: usize,
     v: &[u16],
     p: usize,
     room: &mut [u16],
 ) -> usize
-    requires { Replaceable arities.now row.old table.old n v.now p × ClassRoom arities.now row.old classes.old n v.now p × (length v.now ≤ length room.old) × (few_heads ≤ length room.old) }
-    ensures { Replacing arities.now row.old table.old n v.now p row.new table.new result × Reclassing arities.now row.old classes.old n v.now p classes.new }
+    requires { Changeable arities.now (buffers_of lent.old) n v.now p × (length v.now ≤ length room.old) × (few_heads ≤ length room.old) }
+    ensures same_buffers { SameBuffers lent.old lent.new }
+    ensures changing { Changing arities.now (buffers_of lent.old) n v.now p (buffers_of lent.new) result }
 {
+    let row = &mut *lent.row;
+    let table = &mut *lent.table;
+    let classes = &mut *lent.classes;
     let m = replace_subtree(arities, row, table, n, v, p, room);
     renew_classes(row, table, classes, n, m, room);
     m
 }
 
-// The same. A shorter replacement takes less room.
-pub fn replace_at(
+// The same, with a room of N places. It stays a function of its own, so that a small replacement has no large room on its stack.
+#[inline(never)]
+fn replace_in<const N: usize>(
     arities: &[u16],
-    row: &mut [u16],
-    table: &mut [u16],
-    classes: &mut [u16],
+    lent: &mut Buffers,
     n: usize,
     v: &[u16],
     p: usize,
 ) -> usize
-    requires { Replaceable arities.now row.old table.old n v.now p × ClassRoom arities.now row.old classes.old n v.now p × (length v.now ≤ row_most) }
-    ensures { Replacing arities.now row.old table.old n v.now p row.new table.new result × Reclassing arities.now row.old classes.old n v.now p classes.new }
+    requires changeable { Changeable arities.now (buffers_of lent.old) n v.now p }
+    requires room { (length v.now ≤ N) × (few_heads ≤ N) × (N < 65536) }
+    ensures same_buffers { SameBuffers lent.old lent.new }
+    ensures changing { Changing arities.now (buffers_of lent.old) n v.now p (buffers_of lent.new) result }
 {
+    let mut room = [0u16; N];
+    replace_beside(arities, lent, n, v, p, &mut room)
+}
+
+// The same. A shorter replacement takes less room.
+pub fn replace_at(arities: &[u16], lent: &mut Buffers, n: usize, v: &[u16], p: usize) -> usize
+    requires { Changeable arities.now (buffers_of lent.old) n v.now p × (length v.now ≤ row_most) }
+    ensures same_buffers { SameBuffers lent.old lent.new }
+    ensures changing { Changing arities.now (buffers_of lent.old) n v.now p (buffers_of lent.new) result }
+{
+    // Stays a choice among sizes: a const argument can't be computed, and the memory is fixed.
     if n + v.len() <= classes::SHORT {
-        let mut room = classes::few_heads();
-        return replace_beside(arities, row, table, classes, n, v, p, &mut room);
+        replace_in::<{ classes::FEW }>(arities, lent, n, v, p)
+    } else if v.len() <= classes::MANY {
+        replace_in::<{ classes::MANY }>(arities, lent, n, v, p)
+    } else if v.len() <= tables::MIDDLE {
+        replace_in::<{ tables::MIDDLE }>(arities, lent, n, v, p)
+    } else {
+        replace_in::<{ rows::ROW_MOST }>(arities, lent, n, v, p)
     }
-    if v.len() <= classes::MANY {
-        let mut room = classes::many_heads();
-        return replace_beside(arities, row, table, classes, n, v, p, &mut room);
-    }
-    if v.len() <= tables::MIDDLE {
-        let mut room = tables::middle_room();
-        return replace_beside(arities, row, table, classes, n, v, p, &mut room);
-    }
-    let mut room = tables::long_room();
-    replace_beside(arities, row, table, classes, n, v, p, &mut room)
 }
 
 // Refusals 17 and 18, for a subtree of `size` symbols at position p of a row of n symbols with its table, where the shortest
 // buffer has `room` places.
-pub fn check_place(table: &[u16], room: usize, n: usize, size: usize, p: usize) -> Check
+pub fn check_place(
+    table: &[u16],
+    room: usize,
+    n: usize,
+    size: usize,
+    p: usize,
+) -> Result<(), Refusal>
     requires { (n ≤ row_most) × (size ≤ row_most) × (n ≤ length table.now) × (p < n → get_or table.now p 0 ≤ n) }
     ensures { result ≡ (position n p then grown (p + size + (n - get_or table.now p 0)) room) }
 {
     if n <= p {
-        return Check::Refused(Refusal::Position(p));
+        return Err(Refusal::Position(p));
     }
-    let e = table[p] as usize;
-    let new = p + size + (n - e);
-    if rows::ROW_MOST < new {
-        return Check::Refused(Refusal::TooLong(new));
+    let new = p + size + (n - usize::from(table[p]));
+    if rows::ROW_MOST.min(room) < new {
+        return Err(Refusal::TooLong(new));
     }
-    if room < new {
-        return Check::Refused(Refusal::TooLong(new));
-    }
-    Check::Fine
+    Ok(())
 }
 
 // How much longer the new row is than the old one.
@@ -201,5 +254,6 @@ pub fn change(new: usize, old: usize) -> i32
     requires { (new ≤ row_most) × (old ≤ row_most) }
     ensures { result ≡ pos new -ℤ pos old }
 {
+    // Stays `as`: the number fits, as a contract says, and `try_from` would answer an error that no call can give.
     new as i32 - old as i32
 }

@@ -1,5 +1,6 @@
 -- What crosses: the bytes after a call, read as numbers, are what the Rattle call leaves, since each list keeps its length.
 -- Assumes nothing.
+use Rattle.std.specs.Prelude.{ℤ, Result, Ok, Err, ⊤}
 use Prim.Native.Nat.{ℕ, ◌*◌, ◌≤◌}
 use mathlib.Core.Path.{◌≡◌, refl, sym, ap, ◌∙◌, subst}
 use mathlib.Core.List.{List}
@@ -10,8 +11,6 @@ use Rattle.rows.specs.Parse.{table}
 use Rattle.rows.specs.Classes.{classes}
 use Rattle.rows.specs.Buffers.{written, after}
 use Rattle.rows.specs.Refusals.{output}
-use Rattle.rows.specs.declared.Check.{Check}
-use Rattle.rows.specs.declared.Check.TheVariants.{Fine, Refused}
 use Rattle.rows.proofs.Buffers.{length-written}
 use Rattle.rows.proofs.Entry.{length-table}
 use Rattle.rows.proofs.Passing.{both_fine, output_fine}
@@ -22,11 +21,6 @@ use Rattle.sparrowhem.specs.Build.{Built}
 use Rattle.sparrowhem.specs.Search.{Finds}
 use Rattle.sparrowhem.specs.Sheet.{SheetAnswers}
 use Rattle.sparrowhem.specs.Edit.{Replacement}
-use Rattle.sparrowhem.specs.declared.search.Found.{Found}
-use Rattle.sparrowhem.specs.declared.search.Found.TheVariants.{Matches, Refused as Unfound}
-use Rattle.sparrowhem.specs.declared.search.SheetFound.{SheetFound}
-use Rattle.sparrowhem.specs.declared.edit.Replaced.{Replaced}
-use Rattle.sparrowhem.specs.declared.edit.Replaced.TheVariants.{Done, Refused as Unreplaced}
 use Rattle.sheets.proofs.Sheets.{results_length}
 use Rattle.sparrowhem.proofs.Searching.{finds_matches}
 use Rattle.sparrowhem.proofs.Sheeting.{every, threes, computed, sheet_answerable, sheet_computed}
@@ -41,6 +35,7 @@ use Rattle.wire.proofs.Promises.{odd_byte_is_kept}
 use Rattle.c_lent.specs.Lent.{Lent, numbers_of}
 use Rattle.c_lent.proofs.Lists.{Covers, beside_reads, rewritten_reads}
 use Rattle.host.specs.Promises.{OddByteStays, BuildCrosses, FindCrosses, SheetCrosses, ReplaceCrosses, BarsReadCrosses, BarsWriteCrosses}
+use Rattle.rows.specs.declared.Refusal.{Refusal}
 
 -- the odd last byte, where as many numbers are written as there are
 odd : (l v l' : List ℕ) → length v ≡ length (numbers l) → l' ≡ written l 0 (bytes_of v) → OddByteStays l l'
@@ -51,21 +46,21 @@ odd l v l' h e =
     ∙ ap (λ (n : ℕ). drop (2 * n) l) h
 
 -- build leaves the row, and a table and classes of the old length
-built_row : (a : Alphabet) (P : Programme) (r : Check) (P' : Programme) → Built a P r P' → P'.row ≡ P.row
-built_row a P Fine P' b = ap (λ (x : Programme). x.row) (build_fine a P P' b)
-built_row a P (Refused x) P' b = ap (λ (x : Programme). x.row) (build_kept a P x P' b)
+built_row : (a : Alphabet) (P : Programme) (r : Result ⊤ Refusal) (P' : Programme) → Built a P r P' → P'.row ≡ P.row
+built_row a P (Ok _) P' b = ap (λ (x : Programme). x.row) (build_fine a P P' b)
+built_row a P (Err x) P' b = ap (λ (x : Programme). x.row) (build_kept a P x P' b)
 
-built-table : (a : Alphabet) (P : Programme) (r : Check) (P' : Programme) → Built a P r P' → length P'.table ≡ length P.table
-built-table a P Fine P' b =
+built-table : (a : Alphabet) (P : Programme) (r : Result ⊤ Refusal) (P' : Programme) → Built a P r P' → length P'.table ≡ length P.table
+built-table a P (Ok _) P' b =
     ap (λ (x : Programme). length x.table) (build_fine a P P' b)
     ∙ length-written P.table 0 (table a.arities P.row) (omega (arith, length-table a.arities P.row, (build_fillable a P (sym b.answer)).fits))
-built-table a P (Refused x) P' b = ap (λ (x : Programme). length x.table) (build_kept a P x P' b)
+built-table a P (Err x) P' b = ap (λ (x : Programme). length x.table) (build_kept a P x P' b)
 
-built-classes : (a : Alphabet) (P : Programme) (r : Check) (P' : Programme) → Built a P r P' → length P'.classes ≡ length P.classes
-built-classes a P Fine P' b =
+built-classes : (a : Alphabet) (P : Programme) (r : Result ⊤ Refusal) (P' : Programme) → Built a P r P' → length P'.classes ≡ length P.classes
+built-classes a P (Ok _) P' b =
     ap (λ (x : Programme). length x.classes) (build_fine a P P' b)
     ∙ length-written P.classes 0 (classes a.arities P.row) (omega (arith, (class_of_row a.arities P.row).0, build_classes a P (sym b.answer)))
-built-classes a P (Refused x) P' b = ap (λ (x : Programme). length x.classes) (build_kept a P x P' b)
+built-classes a P (Err x) P' b = ap (λ (x : Programme). length x.classes) (build_kept a P x P' b)
 
 pub build_crosses : BuildCrosses
 build_crosses a b r b' c =
@@ -89,11 +84,11 @@ build_crosses a b r b' c =
     }
 
 -- find leaves an output of the old length
-found-length : (a : Alphabet) (P : Programme) (q y : List ℕ) (r : Found) (y' : List ℕ) → Finds a P q y r y' → length y' ≡ length y
-found-length a P q y (Matches n) y' f =
-    let m = finds_matches a P q y (Matches n) y' f n refl in
+found-length : (a : Alphabet) (P : Programme) (q y : List ℕ) (r : Result ℕ Refusal) (y' : List ℕ) → Finds a P q y r y' → length y' ≡ length y
+found-length a P q y (Ok n) y' f =
+    let m = finds_matches a P q y (Ok n) y' f n refl in
     ap length m.wrote ∙ length-written y 0 f.positions (omega (arith, m.room, m.many))
-found-length a P q y (Unfound x) y' f = ap length (find_kept a P q y x y' f)
+found-length a P q y (Err x) y' f = ap length (find_kept a P q y x y' f)
 
 pub find_crosses : FindCrosses
 find_crosses a P q out r out' c =
@@ -108,17 +103,17 @@ find_crosses a P q out r out' c =
     }
 
 -- a sheet leaves outputs of the old lengths
-sheet_lengths : (a : Alphabet) (P : Programme) (qs ls y z : List ℕ) (r : SheetFound) (y' z' : List ℕ) → SheetAnswers a P qs ls y z r y' z'
+sheet_lengths : (a : Alphabet) (P : Programme) (qs ls y z : List ℕ) (r : Result (ℕ × ℕ) Refusal) (y' z' : List ℕ) → SheetAnswers a P qs ls y z r y' z'
     → (length y' ≡ length y) × (length z' ≡ length z)
 unfolding sheet_check
 sheet_lengths a P qs ls y z r y' z' s =
     let e = sheet_computed a P qs ls y z r y' z' s in
     go (computed a P qs ls y z) refl e.1 e.2
   where
-    go : (c : Check) → computed a P qs ls y z ≡ c → y' ≡ after c (written y 0 (every a P qs ls y z)) y → z' ≡ after c (written z 0 (threes a P qs ls y z)) z
+    go : (c : Result ⊤ Refusal) → computed a P qs ls y z ≡ c → y' ≡ after c (written y 0 (every a P qs ls y z)) y → z' ≡ after c (written z 0 (threes a P qs ls y z)) z
         → (length y' ≡ length y) × (length z' ≡ length z)
-    go (Refused x) d p t = (ap length p, ap length t)
-    go Fine d p t =
+    go (Err x) d p t = (ap length p, ap length t)
+    go (Ok _) d p t =
         let both = both_fine (results_check a P qs ls (length z)) (output (length (every a P qs ls y z)) (length y)) d in
         let room = (sheet_answerable a P qs ls y z both.0).room in (
           ap length p ∙ length-written y 0 (every a P qs ls y z) (omega (arith, output_fine (length (every a P qs ls y z)) (length y) both.1)),
@@ -143,11 +138,11 @@ sheet_crosses a P qs ls out res r out' res' c =
     }
 
 -- replace leaves lists of the old lengths
-replaced_covers : (a : Alphabet) (b : Lent) (n : ℕ) (v : List ℕ) (p : ℕ) (r : Replaced) (P' : Programme) → Replacement a (numbers_of b) n v p r P' → Covers b P'
-replaced_covers a b n v p (Done m d) P' o =
+replaced_covers : (a : Alphabet) (b : Lent) (n : ℕ) (v : List ℕ) (p : ℕ) (r : Result (ℕ × ℤ) Refusal) (P' : Programme) → Replacement a (numbers_of b) n v p r P' → Covers b P'
+replaced_covers a b n v p (Ok (m, d)) P' o =
     let same = same_lengths a (numbers_of b) n v p P' m d (went a (numbers_of b) n v p P' m d o) in
     record { row = same.0; table = same.1; classes = same.2 }
-replaced_covers a b n v p (Unreplaced x) P' o =
+replaced_covers a b n v p (Err x) P' o =
     let same = stayed a (numbers_of b) n v p P' x o in
     record {
       row = ap (λ (Q : Programme). length Q.row) same;
@@ -171,9 +166,9 @@ replace_crosses a b n v p r b' c =
     }
 
 -- a list to whose front others are written, if they have room, keeps its length
-kept-length : (c : Check) (y v y' : List ℕ) → y' ≡ after c (written y 0 v) y → (c ≡ Fine → length v ≤ length y) → length y' ≡ length y
-kept-length Fine y v y' e room = ap length e ∙ length-written y 0 v (omega (arith, room refl))
-kept-length (Refused x) y v y' e room = ap length e
+kept-length : (c : Result ⊤ Refusal) (y v y' : List ℕ) → y' ≡ after c (written y 0 v) y → (c ≡ Ok tt → length v ≤ length y) → length y' ≡ length y
+kept-length (Ok _) y v y' e room = ap length e ∙ length-written y 0 v (omega (arith, room refl))
+kept-length (Err x) y v y' e room = ap length e
 
 pub bars_read_crosses : BarsReadCrosses
 bars_read_crosses A v out r out' c =
@@ -190,7 +185,7 @@ bars_read_crosses A v out r out' c =
 pub bars_write_crosses : BarsWriteCrosses
 bars_write_crosses A w out r out' c =
     let y : List ℕ = numbers out in
-    let fits : write_check A w (length y) ≡ Fine → length (bars_of A w) ≤ length y = λ e. omega (arith, length_bars A w, (write_legible A w (length y) e).room) in
+    let fits : write_check A w (length y) ≡ Ok tt → length (bars_of A w) ≤ length y = λ e. omega (arith, length_bars A w, (write_legible A w (length y) e).room) in
     let long = kept-length (write_check A w (length y)) y (bars_of A w) c.left c.call.bars fits in
     let reads : numbers out' ≡ c.left = ap numbers c.bytes ∙ (odd_byte_is_kept out c.left long).0 in
     record {

@@ -1,5 +1,6 @@
 -- What an answer's four numbers tell, and runs of exported replacements as runs of the Rattle call on the numbers.
 -- Assumes nothing.
+use Rattle.std.specs.Prelude.{Result, Ok, Err, ⊤}
 use Prim.Native.Nat.{ℕ}
 use mathlib.Core.Path.{◌≡◌, refl, sym, ap, ◌∙◌}
 use mathlib.Core.Bool.{Bool}
@@ -12,14 +13,8 @@ use Rattle.rows.specs.Row.{pick}
 use Rattle.rows.specs.Tree.{Forest}
 use Rattle.rows.specs.Parse.{tree_of}
 use Rattle.rows.specs.declared.Refusal.{Refusal}
-use Rattle.rows.specs.declared.Check.{Check}
-use Rattle.rows.specs.declared.Check.TheVariants.{Fine, Refused}
 use Rattle.refusal_numbers.specs.Numbers.{number}
 use Rattle.edits.specs.Put.{put}
-use Rattle.sparrowhem.specs.declared.search.Found.{Found}
-use Rattle.sparrowhem.specs.declared.search.Found.TheVariants.{Matches, Refused as Unfound}
-use Rattle.sparrowhem.specs.declared.edit.Replaced.{Replaced}
-use Rattle.sparrowhem.specs.declared.edit.Replaced.TheVariants.{Done, Refused as Unreplaced}
 use Rattle.promises.specs.Runs.{Call, Run, length_after, edit, edits}
 use Rattle.c_lent.specs.Answer.{refused, build_answer, find_answer, replace_answer}
 use Rattle.c_lent.specs.declared.Answer.{Answer}
@@ -32,26 +27,26 @@ pub refusal_tells : (x : Refusal) → (refused x).refusal ≡ 0 → ⊥
 refusal_tells x e = omega (arith, number-few x)
 
 -- an answer whose refusal is 0 is none of a refusal
-pub build_answered : (o : Check) (n : ℕ) (r : Answer) → r ≡ build_answer o n → r.refusal ≡ 0 → (o ≡ Fine) × (r.count ≡ n)
-build_answered Fine n r e z = (refl, ap (λ (x : Answer). x.count) e)
-build_answered (Refused y) n r e z = absurd (refusal_tells y (sym (ap (λ (x : Answer). x.refusal) e) ∙ z))
+pub build_answered : (o : Result ⊤ Refusal) (n : ℕ) (r : Answer) → r ≡ build_answer o n → r.refusal ≡ 0 → (o ≡ Ok tt) × (r.count ≡ n)
+build_answered (Ok _) n r e z = (refl, ap (λ (x : Answer). x.count) e)
+build_answered (Err y) n r e z = absurd (refusal_tells y (sym (ap (λ (x : Answer). x.refusal) e) ∙ z))
 
-pub find_answered : (o : Found) (r : Answer) → r ≡ find_answer o → r.refusal ≡ 0 → o ≡ Matches r.count
-find_answered (Matches n) r e z = ap Matches (sym (ap (λ (x : Answer). x.count) e))
-find_answered (Unfound y) r e z = absurd (refusal_tells y (sym (ap (λ (x : Answer). x.refusal) e) ∙ z))
+pub find_answered : (o : Result ℕ Refusal) (r : Answer) → r ≡ find_answer o → r.refusal ≡ 0 → o ≡ Ok r.count
+find_answered (Ok n) r e z = ap Ok (sym (ap (λ (x : Answer). x.count) e))
+find_answered (Err y) r e z = absurd (refusal_tells y (sym (ap (λ (x : Answer). x.refusal) e) ∙ z))
 
-pub replace_answered : (o : Replaced) (r : Answer) → r ≡ replace_answer o → r.refusal ≡ 0 → (d : ℤ) × (o ≡ Done r.count d)
-replace_answered (Done m d) r e z = (d, ap (λ (k : ℕ). Done k d) (sym (ap (λ (x : Answer). x.count) e)))
-replace_answered (Unreplaced y) r e z = absurd (refusal_tells y (sym (ap (λ (x : Answer). x.refusal) e) ∙ z))
+pub replace_answered : (o : Result (ℕ × ℤ) Refusal) (r : Answer) → r ≡ replace_answer o → r.refusal ≡ 0 → (d : ℤ) × (o ≡ Ok (r.count, d))
+replace_answered (Ok (m, d)) r e z = (d, ap (λ (k : ℕ). Ok (k, d)) (sym (ap (λ (x : Answer). x.count) e)))
+replace_answered (Err y) r e z = absurd (refusal_tells y (sym (ap (λ (x : Answer). x.refusal) e) ∙ z))
 
 -- going on after a call: as the Rattle call's answer says
-length_same : (o : Replaced) (n : ℕ) → if_answered (replace_answer o) (replace_answer o).count n ≡ length_after n o
-length_same (Done m d) n = refl
-length_same (Unreplaced y) n = ap (λ (b : Bool). pick b 0 n) (ne_eqb (number y) 0 (refusal_tells y))
+length_same : (o : Result (ℕ × ℤ) Refusal) (n : ℕ) → if_answered (replace_answer o) (replace_answer o).count n ≡ length_after n o
+length_same (Ok (m, d)) n = refl
+length_same (Err y) n = ap (λ (b : Bool). pick b 0 n) (ne_eqb (number y) 0 (refusal_tells y))
 
-edit_same : (A : List ℕ) (f : Forest) (p : ℕ) (v : List ℕ) (o : Replaced) → edit A f p v o ≡ if_answered (replace_answer o) (put f p (tree_of A v)) f
-edit_same A f p v (Done m d) = refl
-edit_same A f p v (Unreplaced y) = ap (λ (b : Bool). pick b (put f p (tree_of A v)) f) (sym (ne_eqb (number y) 0 (refusal_tells y)))
+edit_same : (A : List ℕ) (f : Forest) (p : ℕ) (v : List ℕ) (o : Result (ℕ × ℤ) Refusal) → edit A f p v o ≡ if_answered (replace_answer o) (put f p (tree_of A v)) f
+edit_same A f p v (Ok (m, d)) = refl
+edit_same A f p v (Err y) = ap (λ (b : Bool). pick b (put f p (tree_of A v)) f) (sym (ne_eqb (number y) 0 (refusal_tells y)))
 
 -- a run, as one of the Rattle call
 pub record Crossed (a : Alphabet) (s : StateForC) (calls : List CallForC) (s' : StateForC) : Type 0 where

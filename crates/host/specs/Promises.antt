@@ -6,21 +6,17 @@
 -- patterns and of their lengths, v in a reading of bars their numbers, w a row's, out and res the bytes of outputs, r and s are answers; in a replacement n is the row length, v the
 -- replacement's numbers and p the position. ' marks what the bytes are afterwards. The contract of each exported function
 -- (crates/host/src/lib.rt) says of which lent bytes these are made up.
-use Rattle.std.specs.Prelude.{ℕ, ◌-◌, ◌*◌, ◌<◌, ◌≡◌, List, length, get_or, take, drop, pos, ◌-ℤ◌}
+use Rattle.std.specs.Prelude.{ℕ, ◌-◌, ◌*◌, ◌<◌, ◌≡◌, List, length, get_or, take, drop, pos, ◌-ℤ◌, ℤ, Result, ⊤}
 use Rattle.rows.specs.Programme.{Alphabet, Programme, front, cut}
 use Rattle.rows.specs.Tree.{IsRow, single}
 use Rattle.rows.specs.Row.{symbol}
 use Rattle.rows.specs.Buffers.{One}
 use Rattle.rows.specs.declared.Refusal.{Refusal}
-use Rattle.rows.specs.declared.Check.{Check}
 use Rattle.patterns.specs.Answers.{Listed}
 use Rattle.sparrowhem.specs.Build.{Built}
 use Rattle.sparrowhem.specs.Search.{Finds}
 use Rattle.sparrowhem.specs.Sheet.{SheetAnswers}
 use Rattle.sparrowhem.specs.Edit.{Replacement}
-use Rattle.sparrowhem.specs.declared.search.Found.{Found}
-use Rattle.sparrowhem.specs.declared.search.SheetFound.{SheetFound}
-use Rattle.sparrowhem.specs.declared.edit.Replaced.{Replaced}
 use Rattle.promises.specs.Demands.{Follows}
 use Rattle.wire.specs.Wire.{numbers, Bytes}
 use Rattle.c_lent.specs.Answer.{granted, refused, build_answer, find_answer, sheet_answer, replace_answer}
@@ -28,8 +24,6 @@ use Rattle.c_lent.specs.Lent.{Lent, AreBytes, numbers_of}
 use Rattle.c_lent.specs.Calls.{BuiltBytes, FoundBytes, SheetBytes, ReplacedBytes}
 use Rattle.c_lent.specs.declared.Answer.{Answer}
 use Rattle.bars.specs.Calls.{ReadsBars, WritesBars}
-use Rattle.bars.specs.declared.BarsRead.{BarsRead}
-use Rattle.bars.specs.declared.BarsWritten.{BarsWritten}
 use Rattle.c_bars.specs.Answer.{read_answer, write_answer}
 use Rattle.c_bars.specs.Calls.{BarsReadBytes, BarsWrittenBytes}
 use Rattle.catalogue.specs.declared.Entry.{Entry}
@@ -114,7 +108,7 @@ pub record OddBytesStay (b b' : Lent) : Type 0 where
 
 -- build: the row's bytes stay
 pub record BuiltNumbers (a : Alphabet) (b : Lent) (r : Answer) (b' : Lent) : Type 0 where
-  pub outcome : Check
+  pub outcome : Result ⊤ Refusal
   pub call : Built a (numbers_of b) outcome (numbers_of b')
   pub answer : r ≡ build_answer outcome (length (numbers_of b).row)
   pub row_stays : b'.row ≡ b.row
@@ -124,7 +118,7 @@ abbrev pub BuildCrosses : Type 0
 BuildCrosses = (a : Alphabet) (b : Lent) (r : Answer) (b' : Lent) → BuiltBytes a b r b' → BuiltNumbers a b r b'
 
 pub record FoundNumbers (a : Alphabet) (P : Programme) (q out : List ℕ) (r : Answer) (out' : List ℕ) : Type 0 where
-  pub outcome : Found
+  pub outcome : Result ℕ Refusal
   pub call : Finds a P q (numbers out) outcome (numbers out')
   pub answer : r ≡ find_answer outcome
   pub odd : OddByteStays out out'
@@ -134,7 +128,7 @@ FindCrosses = (a : Alphabet) (P : Programme) (q out : List ℕ) (r : Answer) (ou
 
 -- sheet: both outputs
 pub record SheetNumbers (a : Alphabet) (P : Programme) (qs ls out res : List ℕ) (r : Answer) (out' res' : List ℕ) : Type 0 where
-  pub outcome : SheetFound
+  pub outcome : Result (ℕ × ℕ) Refusal
   pub call : SheetAnswers a P qs ls (numbers out) (numbers res) outcome (numbers out') (numbers res')
   pub answer : r ≡ sheet_answer outcome
   pub odd : OddByteStays out out'
@@ -145,7 +139,7 @@ SheetCrosses = (a : Alphabet) (P : Programme) (qs ls out res : List ℕ) (r : An
     → SheetBytes a P qs ls out res r out' res' → SheetNumbers a P qs ls out res r out' res'
 
 pub record ReplacedNumbers (a : Alphabet) (b : Lent) (n : ℕ) (v : List ℕ) (p : ℕ) (r : Answer) (b' : Lent) : Type 0 where
-  pub outcome : Replaced
+  pub outcome : Result (ℕ × ℤ) Refusal
   pub call : Replacement a (numbers_of b) n v p outcome (numbers_of b')
   pub answer : r ≡ replace_answer outcome
   pub odd : OddBytesStay b b'
@@ -156,7 +150,7 @@ ReplaceCrosses = (a : Alphabet) (b : Lent) (n : ℕ) (v : List ℕ) (p : ℕ) (r
 
 -- bars read, and bars written
 pub record BarsReadNumbers (A v out : List ℕ) (r : Answer) (out' : List ℕ) : Type 0 where
-  pub outcome : BarsRead
+  pub outcome : Result ℕ Refusal
   pub call : ReadsBars A v (numbers out) outcome (numbers out')
   pub answer : r ≡ read_answer outcome
   pub odd : OddByteStays out out'
@@ -165,7 +159,7 @@ abbrev pub BarsReadCrosses : Type 0
 BarsReadCrosses = (A v out : List ℕ) (r : Answer) (out' : List ℕ) → BarsReadBytes A v out r out' → BarsReadNumbers A v out r out'
 
 pub record BarsWrittenNumbers (A w out : List ℕ) (r : Answer) (out' : List ℕ) : Type 0 where
-  pub outcome : BarsWritten
+  pub outcome : Result ℕ Refusal
   pub call : WritesBars A w (numbers out) outcome (numbers out')
   pub answer : r ≡ write_answer outcome
   pub odd : OddByteStays out out'

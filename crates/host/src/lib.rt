@@ -10,7 +10,7 @@ ghost use Rattle.c_bars.specs.Calls.{BarsReadBytes, BarsWrittenBytes};
 ghost use Rattle.c_catalogue.specs.Calls.{FileRead, FileWritten};
 
 use c_catalogue::CatalogueAnswer;
-use c_lent::Answer;
+use c_lent::{Answer, Lent};
 use catalogue::Entry;
 
 #[unsafe(no_mangle)]
@@ -36,7 +36,16 @@ pub extern "C" fn sparrowhem_find(
 ) -> Answer
     ensures { FoundBytes (alphabet_of (numbers arities.now)) (numbers_of (lent row.now table.now classes.now)) (numbers pattern.now) out.old result out.new }
 {
-    c_copied::find(arities, row, table, classes, pattern, out)
+    c_copied::find(
+        arities,
+        Lent {
+            row,
+            table,
+            classes,
+        },
+        pattern,
+        out,
+    )
 }
 
 #[unsafe(no_mangle)]
@@ -53,7 +62,16 @@ pub extern "C" fn sparrowhem_sheet(
     ensures { SheetBytes (alphabet_of (numbers arities.now)) (numbers_of (lent row.now table.now classes.now)) (numbers patterns.now) (numbers lengths.now) positions.old results.old result positions.new results.new }
 {
     c_sheets::sheet(
-        arities, row, table, classes, patterns, lengths, positions, results,
+        arities,
+        Lent {
+            row,
+            table,
+            classes,
+        },
+        patterns,
+        lengths,
+        positions,
+        results,
     )
 }
 
@@ -74,6 +92,7 @@ pub extern "C" fn sparrowhem_replace(
         row,
         table,
         classes,
+        // Stays `as`, here and below: a usize has the 64 bits of a u64.
         row_length as usize,
         replacement,
         position as usize,
@@ -87,7 +106,7 @@ pub extern "C" fn sparrowhem_catalogue_read<'a, 'b>(
 ) -> CatalogueAnswer
     ensures { FileRead file.now entries.old result entries.new }
 {
-    c_catalogue::read_answer(catalogue_read::read_catalogue(file, entries))
+    CatalogueAnswer::from(catalogue_read::read_catalogue(file, entries))
 }
 
 #[unsafe(no_mangle)]

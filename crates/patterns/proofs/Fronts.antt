@@ -6,7 +6,6 @@ use mathlib.Core.List.{List, [], ◌∷◌}
 use mathlib.Core.Bool.{Bool, true, false}
 use native.Mathlib.Omega.{arith}
 use native.Mathlib.Nat.{add-zero, zero-add}
-use native.Mathlib.Decide.{ℕ_discrete, dec_lt}
 use native.Mathlib.Numerals.{add-one}
 use borrow.Author.Tests.{eq-eqb, eqb-true}
 use lib.Dec.{eqb}
@@ -84,25 +83,6 @@ module _ (w : List ℕ) (a b n i : ℕ) (ha : a + n ≤ length w) (hb : b + n �
   counted_end l = let z : n - i ≡ 0 = omega arith in rw z (add-zero i)
 
 -- SYMBOLS THAT ARE THE SAME, PLACE BY PLACE
--- one more
-pub alike_more : (x : List ℕ) (a : ℕ) (y : List ℕ) (b n : ℕ) → Alike x a y b n → get_or x (a + n) 0 ≡ get_or y (b + n) 0 → Alike x a y b (n + 1)
-alike_more x a y b n h z k l = go (ℕ_discrete k n)
-  where
-    go : Dec (k ≡ n) → get_or x (a + k) 0 ≡ get_or y (b + k) 0
-    go (yes d) = rw d z
-    go (no d) = h k (omega arith)
-
--- m more
-pub alike-joined : (x : List ℕ) (a : ℕ) (y : List ℕ) (b n m : ℕ) → Alike x a y b n → Alike x (a + n) y (b + n) m → Alike x a y b (n + m)
-alike-joined x a y b n m h g k l = go (dec_lt k n)
-  where
-    go : Dec (k < n) → get_or x (a + k) 0 ≡ get_or y (b + k) 0
-    go (yes d) = h k d
-    go (no d) =
-        let to-a : a + n + (k - n) ≡ a + k = omega arith in
-        let to-b : b + n + (k - n) ≡ b + k = omega arith in
-        ap (λ (i : ℕ). get_or x i 0) (sym to-a) ∙ g (k - n) (omega arith) ∙ ap (λ (i : ℕ). get_or y i 0) to-b
-
 -- so many are counted
 pub alike_counted : (w : List ℕ) (a b n i : ℕ) → a + n ≤ length w → b + n ≤ length w → i ≤ n → Alike w a w b i → counted w a b n 0 ≡ counted w a b n i
 alike_counted w a b n zero ha hb l h = refl

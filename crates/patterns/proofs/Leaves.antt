@@ -1,7 +1,7 @@
 -- What a number of a pattern says of itself by its kind.
 -- Assumes nothing.
 use Prim.Native.Nat.{ℕ, ◌+◌, ◌-◌, ◌≤◌, ◌<◌}
-use mathlib.Core.Path.{◌≡◌, refl, ap, ◌∙◌}
+use mathlib.Core.Path.{◌≡◌, sym, refl, ap, ◌∙◌}
 use mathlib.Core.List.{List}
 use mathlib.Core.Bool.{Bool, true, false}
 use native.Mathlib.Omega.{arith}
@@ -73,3 +73,7 @@ blank_more q m some h z = record { within = omega (arith, h.within); blank = λ 
     go : (i : ℕ) → m - 1 ≤ i → i < length q → Dec (i ≡ m - 1) → leaf (get_or q i 0) ≡ Blank
     go i l u (yes d) = ap (λ (n : ℕ). leaf (get_or q n 0)) d ∙ z
     go i l u (no d) = h.blank i (omega arith) u
+
+-- the number before place k is S too
+pub blank_before : (q : List ℕ) (k : ℕ) → 0 < k → BlankFrom q k → get_or q (k - 1) 0 ≡ blank → BlankFrom q (k - 1)
+blank_before q k some h z = blank_more q k some h (sym (leaf-blank (get_or q (k - 1) 0) z))

@@ -1,5 +1,6 @@
 -- The walk finds exactly the matches, and its marks are those of the only trees that the variables can stand for.
 -- Assumes nothing.
+use Rattle.std.specs.Prelude.{Ok}
 use Prim.Native.Nat.{ℕ, suc, ◌+◌, ◌-◌, ◌≤◌, ◌<◌}
 use mathlib.Core.Path.{◌≡◌, refl, sym, ap, ◌∙◌, subst}
 use mathlib.Core.Logic.{◌↔◌, ◌⊎◌, inl, inr}
@@ -13,7 +14,6 @@ use Rattle.rows.specs.Tree.{Forest.none, Tree, single, size, count, prefix, Rank
 use Rattle.rows.specs.Parse.{parse, tree_of}
 use Rattle.rows.specs.Row.{verdict, allowed, sized, reading}
 use Rattle.rows.specs.declared.Leaves.TheVariants.{Blanks}
-use Rattle.rows.specs.declared.Verdict.TheVariants.{Whole}
 use Rattle.rows.proofs.Tree.{length-prefix}
 use Rattle.rows.proofs.Parse.{prefix-parse}
 use Rattle.rows.proofs.Accept.{count-parse, ranked_parse, lone}
@@ -34,12 +34,12 @@ use Rattle.patterns.proofs.Missing.{Lies, misses_where}
 pub record PatternOf (A q : List ℕ) : Type 0 where
   pub some : 0 < length q
   pub most : length q ≤ pattern_most
-  pub whole : verdict A (allowed Blanks A) 1 0 q ≡ Whole
+  pub whole : verdict A (allowed Blanks A) 1 0 q ≡ Ok tt
   pub tree : parse A q ≡ single (tree_of A q)
   pub ranked : Ranked A (allowed Blanks A) (single (tree_of A q))
   pub reads : prefix (single (tree_of A q)) ≡ q
 
-pub pattern_of : (A q : List ℕ) → reading A Blanks pattern_most q ≡ Whole → PatternOf A q
+pub pattern_of : (A q : List ℕ) → reading A Blanks pattern_most q ≡ Ok tt → PatternOf A q
 unfolding reading subtrees
 pattern_of A q e =
     let both = both_whole (sized (length q) pattern_most) (verdict A (allowed Blanks A) 1 0 q) e in

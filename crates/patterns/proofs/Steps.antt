@@ -1,5 +1,6 @@
 -- One step of the walk, by its cases.
 -- Assumes nothing.
+use Rattle.std.specs.Prelude.{Option, Some, None}
 use Prim.Native.Nat.{ℕ, zero, suc, ◌+◌, ◌-◌, ◌≤◌, ◌<◌}
 use mathlib.Core.Path.{◌≡◌, refl, sym, ap, ◌∙◌, subst}
 use mathlib.Core.List.{List}
@@ -12,15 +13,13 @@ use Rattle.rows.specs.Row.{pick}
 use Rattle.patterns.specs.Pattern.{leaf}
 use Rattle.patterns.specs.Walk.{same_symbol, agreeing, twice, Outcome, Outcome.misses, Outcome.reaches, meets, takes, steps, ByClass, met, marked, stepped, marks_after, Stepping}
 use Rattle.patterns.specs.declared.Leaf.TheVariants.{Plain, Blank, Variable}
-use Rattle.patterns.specs.declared.Stepped.{Stepped}
-use Rattle.patterns.specs.declared.Stepped.TheVariants.{To, Miss}
 use Rattle.patterns.proofs.Leaves.{Kind, kind}
 
 -- the answer for an outcome that is known
 pub answers : (o o' : Outcome) (ms : List ℕ) → o ≡ o' → Stepping o ms (stepped o') (marks_after ms o')
 answers o o' ms q = record { answer = ap stepped (sym q); marks = ap (marks_after ms) (sym q) }
 
-pub answers_at : (o o' : Outcome) (ms : List ℕ) (r : Stepped) (ms' : List ℕ) → o ≡ o' → Stepping o' ms r ms' → Stepping o ms r ms'
+pub answers_at : (o o' : Outcome) (ms : List ℕ) (r : Option ℕ) (ms' : List ℕ) → o ≡ o' → Stepping o' ms r ms' → Stepping o ms r ms'
 answers_at o o' ms r ms' q h = subst (λ (x : Outcome). Stepping x ms r ms') (sym q) h
 
 -- a variable's number is below 16
@@ -38,11 +37,11 @@ module _ (w : List ℕ) (end k j : ℕ) (ms : List ℕ) (i : ℕ) where
   unfolding meets
   meets_later a m b y = ap (meets w end k j ms i) m ∙ rw y refl
 
-pick_misses : (b : Bool) (end : ℕ) (ms : List ℕ) (k a : ℕ) → stepped (pick b (reaches end ms) (misses k a)) ≡ Miss → pick b (reaches end ms) (misses k a) ≡ misses k a
+pick_misses : (b : Bool) (end : ℕ) (ms : List ℕ) (k a : ℕ) → stepped (pick b (reaches end ms) (misses k a)) ≡ None → pick b (reaches end ms) (misses k a) ≡ misses k a
 pick_misses true end ms k a x = let z : ◌≡◌ {A = ℕ} 0 1 = cc in absurd (omega arith)
 pick_misses false end ms k a x = refl
 
-meets_misses : (w : List ℕ) (end k j : ℕ) (ms : List ℕ) (i mark : ℕ) → stepped (meets w end k j ms i mark) ≡ Miss
+meets_misses : (w : List ℕ) (end k j : ℕ) (ms : List ℕ) (i mark : ℕ) → stepped (meets w end k j ms i mark) ≡ None
     → (0 < mark) × (meets w end k j ms i mark ≡ misses k (j + agreeing w (mark - 1) j (end - j)))
 unfolding meets
 meets_misses w end k j ms i zero x = let z : ◌≡◌ {A = ℕ} 0 1 = cc in absurd (omega arith)
@@ -56,8 +55,8 @@ pub met_by_class : (w e c : List ℕ) (k j : ℕ) (ms : List ℕ) (i : ℕ) → 
 unfolding meets
 met_by_class w e c k j ms i by h m = go (get_or ms i 0) m
   where
-    either : (b : Bool) (o : Outcome) → stepped o ≡ Miss → marks_after ms o ≡ ms
-        → Stepping (pick b (reaches (get_or e j 0) ms) o) ms (pick b (To (get_or e j 0)) Miss) ms
+    either : (b : Bool) (o : Outcome) → stepped o ≡ None → marks_after ms o ≡ ms
+        → Stepping (pick b (reaches (get_or e j 0) ms) o) ms (pick b (Some (get_or e j 0)) None) ms
     either true o x y = record { answer = refl; marks = refl }
     either false o x y = record { answer = sym x; marks = sym y }
 
@@ -92,12 +91,12 @@ module _ (w e : List ℕ) (k s j : ℕ) (ms : List ℕ) where
     steps_variable i l = rw (y, l) refl
 
     -- where a variable misses, it was met before, and the first symbol that differs is told
-    pub variable_misses : (i : ℕ) → leaf s ≡ Variable i → stepped (steps w e k s j ms) ≡ Miss
+    pub variable_misses : (i : ℕ) → leaf s ≡ Variable i → stepped (steps w e k s j ms) ≡ None
         → (0 < get_or ms i 0) × (steps w e k s j ms ≡ misses k (j + agreeing w (get_or ms i 0 - 1) j (get_or e j 0 - j)))
     variable_misses i l z =
         let f = meets_misses w (get_or e j 0) k j ms i (get_or ms i 0) (sym (ap stepped (steps_variable i l)) ∙ z) in
         (f.0, steps_variable i l ∙ f.1)
 
     -- S never misses
-    pub blank_fits : leaf s ≡ Blank → stepped (steps w e k s j ms) ≡ Miss → ⊥
+    pub blank_fits : leaf s ≡ Blank → stepped (steps w e k s j ms) ≡ None → ⊥
     blank_fits l z = let x : ◌≡◌ {A = ℕ} 0 1 = cc (ap stepped (steps-blank l)) in omega arith

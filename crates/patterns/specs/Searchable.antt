@@ -1,11 +1,10 @@
 -- Inside: no public contract cites what stands in this file, and no reader has to believe it.
 -- What refusals 1 to 15 and 62 leave: a row with what is kept beside it, and a pattern that can be searched for in it.
-use Rattle.std.specs.Prelude.{ℕ, ◌≤◌, ◌<◌, ◌≡◌, List, length, get_or}
+use Rattle.std.specs.Prelude.{ℕ, ◌≤◌, ◌<◌, ◌≡◌, List, length, get_or, Ok}
 use Rattle.rows.specs.Limits.{alphabet_most, pattern_most}
 use Rattle.rows.specs.Programme.{Alphabet, Programme}
 use Rattle.rows.specs.Row.{reading}
 use Rattle.rows.specs.declared.Leaves.TheVariants.{Blanks}
-use Rattle.rows.specs.declared.Verdict.TheVariants.{Whole}
 use Rattle.tables.specs.Given.{Right, Classed}
 use Rattle.patterns.specs.Pattern.{leaf}
 use Rattle.patterns.specs.declared.Leaf.TheVariants.{Blank}
@@ -15,7 +14,7 @@ pub record Checked (a : Alphabet) (P : Programme) (q : List ℕ) : Type 0 where
   pub few : length a.arities ≤ alphabet_most
   pub row : Right a.arities P.row P.table
   pub classed : Classed a.arities P.row P.classes
-  pub pattern : reading a.arities Blanks pattern_most q ≡ Whole
+  pub pattern : reading a.arities Blanks pattern_most q ≡ Ok tt
 
 -- programme and pattern are accepted for some alphabet. (The search does not look at it, and what it answers holds for each
 -- alphabet for which they are.)

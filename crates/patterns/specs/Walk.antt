@@ -1,7 +1,7 @@
 -- Inside: no public contract cites what stands in this file, and no reader has to believe it.
 -- The method: a walk along the pattern, from left to right, over a row w and its table e. It keeps a mark for each variable:
 -- 0 if the variable was not met yet, else one more than the row position of its first place.
-use Rattle.std.specs.Prelude.{ℕ, zero, suc, ◌+◌, ◌-◌, ◌≤◌, ◌<◌, ◌≡◌, List, [], ◌∷◌, ◌++◌, Bool, true, false, eqb, get_or, length, take, drop, set, replicate}
+use Rattle.std.specs.Prelude.{ℕ, zero, suc, ◌+◌, ◌-◌, ◌≤◌, ◌<◌, ◌≡◌, List, [], ◌∷◌, ◌++◌, Bool, true, false, eqb, get_or, length, take, drop, set, replicate, Result, Ok, Err, ⊤, Option, Some, None}
 use Rattle.rows.specs.Limits.{row_most, variables}
 use Rattle.rows.specs.Programme.{Alphabet}
 use Rattle.rows.specs.Parse.{table}
@@ -9,10 +9,6 @@ use Rattle.rows.specs.Row.{pick}
 use Rattle.patterns.specs.Pattern.{leaf}
 use Rattle.patterns.specs.declared.Leaf.{Leaf}
 use Rattle.patterns.specs.declared.Leaf.TheVariants.{Plain, Blank, Variable}
-use Rattle.patterns.specs.declared.Stepped.{Stepped}
-use Rattle.patterns.specs.declared.Stepped.TheVariants.{To, Miss}
-use Rattle.patterns.specs.declared.Walked.{Walked}
-use Rattle.patterns.specs.declared.Walked.TheVariants.{Through, Fails}
 
 -- two symbols are the same
 abbrev pub same_symbol : ℕ → ℕ → Bool
@@ -114,42 +110,37 @@ pub record ByClass (w e c : List ℕ) : Type 0 where
   pub same : (a j : ℕ) → a < j → j < length w → twice w a j (get_or e j 0 - j) ≡ eqb (get_or c a 0) (get_or c j 0)
 
 -- the code's answer for a variable, by the classes c and its mark m: at its first place it is marked; at a later one the classes decide
-abbrev pub met : List ℕ → ℕ → ℕ → ℕ → Stepped
-met c end j zero = To end
-met c end j (suc a) = pick (eqb (get_or c a 0) (get_or c j 0)) (To end) Miss
+abbrev pub met : List ℕ → ℕ → ℕ → ℕ → Option ℕ
+met c end j zero = Some end
+met c end j (suc a) = pick (eqb (get_or c a 0) (get_or c j 0)) (Some end) None
 
 abbrev pub marked : List ℕ → ℕ → ℕ → ℕ → List ℕ
 marked ms i j zero = set ms i (j + 1)
 marked ms i j (suc a) = ms
 
 -- the code's answer for a step, and the marks that it leaves where it found ms
-abbrev pub stepped : Outcome → Stepped
-stepped (misses k j) = Miss
-stepped (reaches j ms) = To j
+abbrev pub stepped : Outcome → Option ℕ
+stepped (misses k j) = None
+stepped (reaches j ms) = Some j
 
 abbrev pub marks_after : List ℕ → Outcome → List ℕ
 marks_after ms (misses k j) = ms
 marks_after ms (reaches j ms') = ms'
 
-pub record Stepping (o : Outcome) (ms : List ℕ) (r : Stepped) (ms' : List ℕ) : Type 0 where
+pub record Stepping (o : Outcome) (ms : List ℕ) (r : Option ℕ) (ms' : List ℕ) : Type 0 where
   pub answer : r ≡ stepped o
   pub marks : ms' ≡ marks_after ms o
 
--- the code's answer for a step that misses: where the walk misses there
-abbrev pub Misses : Outcome → Walked → Type 0
-Misses o Through = ⊥
-Misses o (Fails k j) = o ≡ misses k j
-
 -- the code's answer for a whole walk: it says that the walk comes through exactly if M, the match, holds; and the two numbers
 -- of a miss are the walk's
-abbrev pub Decides : Type 0 → Outcome → Walked → Type 0
-Decides M o Through = M
-Decides M o (Fails k j) = (M → ⊥) × (o ≡ misses k j)
+abbrev pub Decides : Type 0 → Outcome → Result ⊤ (ℕ × ℕ) → Type 0
+Decides M o (Ok _) = M
+Decides M o (Err (k, j)) = (M → ⊥) × (o ≡ misses k j)
 
 -- what a buffer holds after a walk: the new list if it came through, else the old
-abbrev pub after_walk : Walked → List ℕ → List ℕ → List ℕ
-after_walk Through new old = new
-after_walk (Fails k j) new old = old
+abbrev pub after_walk : Result ⊤ (ℕ × ℕ) → List ℕ → List ℕ → List ℕ
+after_walk (Ok _) new old = new
+after_walk (Err (k, j)) new old = old
 
 -- begin and end of the subtree that a mark stands for: 0 and 0 for a variable that was not met
 abbrev pub mark_begin : ℕ → ℕ

@@ -1,18 +1,16 @@
 -- Inside: no public contract cites what stands in this file, and no reader has to believe it.
 -- What the plain matcher's functions ask for and tell. They go the way of `walk` over the part of a row from the position
 -- on, whose places count from there, with the ends that the part's own trees have.
-use Rattle.std.specs.Prelude.{ℕ, zero, suc, ◌+◌, ◌-◌, ◌≤◌, ◌<◌, ◌≡◌, List, Bool, length, get_or, drop}
+use Rattle.std.specs.Prelude.{ℕ, zero, suc, ◌+◌, ◌-◌, ◌≤◌, ◌<◌, ◌≡◌, List, Bool, length, get_or, drop, Result, Ok, ⊤}
 use Rattle.rows.specs.Limits.{alphabet_most, row_most, pattern_most, variables}
 use Rattle.rows.specs.Programme.{Alphabet}
 use Rattle.rows.specs.Tree.{count, size, Ranked}
 use Rattle.rows.specs.Parse.{first, parse, tree_of, table, behind}
 use Rattle.rows.specs.Row.{symbol, allowed, reading}
 use Rattle.rows.specs.declared.Leaves.TheVariants.{Blanks}
-use Rattle.rows.specs.declared.Verdict.TheVariants.{Whole}
 use Rattle.patterns.specs.Pattern.{leaf, Match}
 use Rattle.patterns.specs.Walk.{Outcome, Outcome.misses, Outcome.reaches, meets, walk, unmarked, MarksIn, Decides}
 use Rattle.patterns.specs.declared.Leaf.TheVariants.{Blank}
-use Rattle.patterns.specs.declared.Walked.{Walked}
 use Rattle.plain.specs.declared.Tried.{Tried}
 use Rattle.plain.specs.declared.Tried.TheVariants.{Past, Through, Miss}
 
@@ -110,8 +108,8 @@ pub record Tryable (a : Alphabet) (l q : List ℕ) : Type 0 where
   pub few : length a.arities ≤ alphabet_most
   pub most : length l ≤ row_most
   pub row : Spells a.arities (symbol a.arities) 1 l
-  pub pattern : reading a.arities Blanks pattern_most q ≡ Whole
+  pub pattern : reading a.arities Blanks pattern_most q ≡ Ok tt
 
 -- the answer says whether the pattern matches the first tree of the part, and where the walk over the part fails
-abbrev pub TriesRight : Alphabet → List ℕ → List ℕ → Walked → Type 0
+abbrev pub TriesRight : Alphabet → List ℕ → List ℕ → Result ⊤ (ℕ × ℕ) → Type 0
 TriesRight a l q r = Decides (Match (tree_of a.arities q) (tree_of a.arities l)) (walk l (table a.arities l) 0 q 0 unmarked) r

@@ -1,5 +1,6 @@
 -- The promises on bar notation, as specs/Bars states them, each with its proof.
 -- Assumes nothing.
+use Rattle.std.specs.Prelude.{Result, Ok, Err, ⊤}
 use Prim.Native.Nat.{ℕ, ◌*◌, ◌<◌, ◌≤◌, min}
 use mathlib.Core.Path.{◌≡◌, refl, sym, ap, ap₂, ◌∙◌, subst}
 use mathlib.Core.List.{List}
@@ -15,18 +16,12 @@ use Rattle.rows.specs.Buffers.{written, after}
 use Rattle.rows.specs.Refusals.{sizes, symbols}
 use Rattle.rows.specs.declared.Leaves.TheVariants.{Symbols as OnlySymbols}
 use Rattle.rows.specs.declared.Refusal.{Refusal}
-use Rattle.rows.specs.declared.Check.{Check}
-use Rattle.rows.specs.declared.Check.TheVariants.{Fine, Refused}
 use Rattle.rows.proofs.Accept.{row_of_whole, whole_of_row}
 use Rattle.rows.proofs.Buffers.{written-front, written_behind}
 use Rattle.rows.proofs.Passing.{clash}
 use Rattle.rows.proofs.Scan.{sized_whole}
 use Rattle.bars.specs.Bars.{bars_of, unbarred, read_check, write_check}
 use Rattle.bars.specs.Calls.{bars_read, bars_written, ReadsBars, WritesBars}
-use Rattle.bars.specs.declared.BarsRead.{BarsRead}
-use Rattle.bars.specs.declared.BarsRead.TheVariants.{Symbols, Refused as Unread}
-use Rattle.bars.specs.declared.BarsWritten.{BarsWritten}
-use Rattle.bars.specs.declared.BarsWritten.TheVariants.{Refused as Unwritten}
 use Rattle.rows.proofs.Alphabets.{symbols_most}
 use Rattle.bars.proofs.Calls.{read_told, written_told, twice, output-room}
 use Rattle.bars.proofs.Closing.{rooted_of_bars, bars_of_rooted}
@@ -41,28 +36,28 @@ use Rattle.promises.proofs.Demand1.{pair}
 
 unfoldable pub bars_read_one : BarsReadOne
 bars_read_one A v w =
-    let c : Check = read_check A v (length w) in
-    let some : BarsRead × List ℕ = (bars_read c (length (unbarred v)), after c (written w 0 (unbarred v)) w) in
+    let c : (Result ⊤ Refusal) = read_check A v (length w) in
+    let some : (Result ℕ Refusal) × List ℕ = (bars_read c (length (unbarred v)), after c (written w 0 (unbarred v)) w) in
     let here : ReadsBars A v w some.0 some.1 = record { answer = refl; row = refl } in
     record { some = some; holds = here; only = λ x h. pair x some (h.answer, h.row) }
 
 unfoldable pub bars_write_one : BarsWriteOne
 bars_write_one A w b =
-    let c : Check = write_check A w (length b) in
-    let some : BarsWritten × List ℕ = (bars_written c (length (bars_of A w)), after c (written b 0 (bars_of A w)) b) in
+    let c : (Result ⊤ Refusal) = write_check A w (length b) in
+    let some : (Result ℕ Refusal) × List ℕ = (bars_written c (length (bars_of A w)), after c (written b 0 (bars_of A w)) b) in
     let here : WritesBars A w b some.0 some.1 = record { answer = refl; bars = refl } in
     record { some = some; holds = here; only = λ x h. pair x some (h.answer, h.bars) }
 
 -- ---- the first refusal in the order, which writes nothing
 
 -- an answer that is made of a check is a refusal exactly if the check is
-unread : (c : Check) (n : ℕ) (x : Refusal) → (bars_read c n ≡ Unread x) ↔ (c ≡ Refused x)
-unread Fine n x = (λ e. (let z : ◌≡◌ {A = ℕ} 0 1 = cc in absurd (omega arith)), λ e. absurd (clash Fine x refl e))
-unread (Refused r) n x = (λ e. (let z : r ≡ x = cc in ap Refused z), λ e. (let z : r ≡ x = cc in ap Unread z))
+unread : (c : Result ⊤ Refusal) (n : ℕ) (x : Refusal) → (bars_read c n ≡ Err x) ↔ (c ≡ Err x)
+unread (Ok _) n x = (λ e. (let z : ◌≡◌ {A = ℕ} 0 1 = cc in absurd (omega arith)), λ e. absurd (clash (Ok tt) x refl e))
+unread (Err r) n x = (λ e. (let z : r ≡ x = cc in ap Err z), λ e. (let z : r ≡ x = cc in ap Err z))
 
-unwritten : (c : Check) (n : ℕ) (x : Refusal) → (bars_written c n ≡ Unwritten x) ↔ (c ≡ Refused x)
-unwritten Fine n x = (λ e. (let z : ◌≡◌ {A = ℕ} 0 1 = cc in absurd (omega arith)), λ e. absurd (clash Fine x refl e))
-unwritten (Refused r) n x = (λ e. (let z : r ≡ x = cc in ap Refused z), λ e. (let z : r ≡ x = cc in ap Unwritten z))
+unwritten : (c : Result ⊤ Refusal) (n : ℕ) (x : Refusal) → (bars_written c n ≡ Err x) ↔ (c ≡ Err x)
+unwritten (Ok _) n x = (λ e. (let z : ◌≡◌ {A = ℕ} 0 1 = cc in absurd (omega arith)), λ e. absurd (clash (Ok tt) x refl e))
+unwritten (Err r) n x = (λ e. (let z : r ≡ x = cc in ap Err z), λ e. (let z : r ≡ x = cc in ap Err z))
 
 pub bars_read_order : BarsReadOrder
 bars_read_order A v w r w' x h = (λ e. (unread _ _ x).0 (sym h.answer ∙ e), λ e. h.answer ∙ (unread _ _ x).1 e)
@@ -72,23 +67,23 @@ bars_write_order A w b r b' x h = (λ e. (unwritten _ _ x).0 (sym h.answer ∙ e
 
 pub bars_read_refused : BarsReadRefused
 bars_read_refused A v w x w' h =
-    h.row ∙ ap (λ (c : Check). after c (written w 0 (unbarred v)) w) ((bars_read_order A v w (Unread x) w' x h).0 refl)
+    h.row ∙ ap (λ (c : Result ⊤ Refusal). after c (written w 0 (unbarred v)) w) ((bars_read_order A v w (Err x) w' x h).0 refl)
 
 pub bars_write_refused : BarsWriteRefused
 bars_write_refused A w b x b' h =
-    h.bars ∙ ap (λ (c : Check). after c (written b 0 (bars_of A w)) b) ((bars_write_order A w b (Unwritten x) b' x h).0 refl)
+    h.bars ∙ ap (λ (c : Result ⊤ Refusal). after c (written b 0 (bars_of A w)) b) ((bars_write_order A w b (Err x) b' x h).0 refl)
 
 -- ---- what is read
 
-module _ (A v w : List ℕ) (n : ℕ) (w' : List ℕ) (h : ReadsBars A v w (Symbols n) w') where
-  told : (read_check A v (length w) ≡ Fine) × (n ≡ length (unbarred v))
+module _ (A v w : List ℕ) (n : ℕ) (w' : List ℕ) (h : ReadsBars A v w (Ok n) w') where
+  told : (read_check A v (length w) ≡ Ok tt) × (n ≡ length (unbarred v))
   told = read_told (read_check A v (length w)) (length (unbarred v)) n h.answer
 
   left : Readable A v (length w)
   left = read_readable A v (length w) told.0
 
   filled : w' ≡ written w 0 (unbarred v)
-  filled = h.row ∙ ap (λ (c : Check). after c (written w 0 (unbarred v)) w) told.0
+  filled = h.row ∙ ap (λ (c : Result ⊤ Refusal). after c (written w 0 (unbarred v)) w) told.0
 
   front : take n w' ≡ unbarred v
   front = ap₂ take told.1 filled ∙ written-front w (unbarred v)
@@ -107,7 +102,7 @@ module _ (A v w : List ℕ) (n : ℕ) (w' : List ℕ) (h : ReadsBars A v w (Symb
       }
 
   -- the row is within the sizes, and one tree's
-  builds : (t c : List ℕ) → n ≤ length t → n ≤ length c → build_check (alphabet_of A) (programme (take n w') t c) ≡ Fine
+  builds : (t c : List ℕ) → n ≤ length t → n ≤ length c → build_check (alphabet_of A) (programme (take n w') t c) ≡ Ok tt
   unfolding build_check sizes sized symbols
   builds t c room places =
       let row : List ℕ = unbarred v in
@@ -116,9 +111,9 @@ module _ (A v w : List ℕ) (n : ℕ) (w' : List ℕ) (h : ReadsBars A v w (Symb
       let beside : length row ≤ min (length row) (min (length t) (length c)) = omega (arith, told.1) in
       let size : 0 < length row = omega (arith, half, told.1, left.some) in
       let most : length row ≤ row_most = omega (arith, half, told.1, left.most) in
-      let fine : build_check (alphabet_of A) (programme row t c) ≡ Fine =
+      let fine : build_check (alphabet_of A) (programme row t c) ≡ (Ok tt) =
       simp (left.fine, le-ltb (length row) 1 size, le-ltb row_most (length row) most, le-ltb (min (length row) (min (length t) (length c))) (length row) beside, whole) in
-      subst (λ (l : List ℕ). build_check (alphabet_of A) (programme l t c) ≡ Fine) (sym front) fine
+      subst (λ (l : List ℕ). build_check (alphabet_of A) (programme l t c) ≡ Ok tt) (sym front) fine
 
 pub bars_read_answers : BarsReadAnswers
 bars_read_answers A v w n w' h = read_row A v w n w' h
@@ -134,7 +129,7 @@ bars_read_accepts A v w r w' fine t most room h =
     let few = symbols_most A fine in
     let long : length v ≡ 2 * size (single t.tree) = ap length (sym t.reads) ∙ length_form (single t.tree) in
     let row = ap length (row_of_bars A v few t) in
-    let check : read_check A v (length w) ≡ Fine =
+    let check : read_check A v (length w) ≡ (Ok tt) =
     simp (fine, sized_whole (length v) bars_most (omega (arith, long, some_tree t.tree)) most, rooted_of_bars A v few t, output-room (length (unbarred v)) (length w) (omega (arith, row))) in
     h.answer ∙ ap₂ bars_read check row
 
@@ -147,7 +142,7 @@ pub bars_write_answers : BarsWriteAnswers
 bars_write_answers A w b n b' h =
     let form : List ℕ = bars_of A w in
     let told = written_told (write_check A w (length b)) (length form) n h.answer in
-    let filled : b' ≡ written b 0 form = h.bars ∙ ap (λ (c : Check). after c (written b 0 form) b) told.0 in
+    let filled : b' ≡ written b 0 form = h.bars ∙ ap (λ (c : Result ⊤ Refusal). after c (written b 0 form) b) told.0 in
     let is_row = row_of_whole A (allowed OnlySymbols A) w (write_legible A w (length b) told.0).accepted in
     record {
       is_row = is_row;

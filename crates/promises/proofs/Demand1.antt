@@ -1,5 +1,6 @@
 -- Demand 1 of specs/Demands, each sentence with its proof.
 -- Assumes nothing.
+use Rattle.std.specs.Prelude.{ℤ, Result, Ok, Err, ⊤}
 use Prim.Native.Nat.{ℕ, zero, suc, ◌+◌, ◌≤◌, ◌<◌, ◌*◌}
 use mathlib.Core.Path.{◌≡◌, refl, sym, ap, ap₂, ◌∙◌, subst}
 use mathlib.Core.List.{List}
@@ -22,8 +23,6 @@ use Rattle.rows.specs.Buffers.{written, after, One}
 use Rattle.rows.specs.Refusals.{◌then◌, as_kept, alphabet, sizes, symbols, fresh, classed, kept, given, pattern, replacement, position, grown, output}
 use Rattle.rows.specs.declared.Refusal.{Refusal}
 use Rattle.rows.specs.declared.Refusal.TheVariants.{Row, OnRecord as RecordRow, OutputShort}
-use Rattle.rows.specs.declared.Check.{Check}
-use Rattle.rows.specs.declared.Check.TheVariants.{Fine, Refused}
 use Rattle.rows.proofs.Entry.{length-table}
 use Rattle.rows.proofs.Classes.{class_of_row}
 use Rattle.rows.proofs.Differ.{differs_whole}
@@ -42,15 +41,8 @@ use Rattle.sparrowhem.specs.Search.{found, Finds, bound, Binds}
 use Rattle.sparrowhem.specs.Edit.{new_tree, holding, answered, Replacement}
 use Rattle.sparrowhem.specs.Parts.{subtree_part, subtree_answer, LiesAt, FirstMatch, NoMatch, NewestSays, newest_part, NewestLies, NewerPart, NewerLies}
 use Rattle.sparrowhem.specs.Plain.{PlainSays}
-use Rattle.sparrowhem.specs.declared.search.Found.{Found}
-use Rattle.sparrowhem.specs.declared.search.Found.TheVariants.{Matches, Refused as FoundRefused}
-use Rattle.sparrowhem.specs.declared.search.Bound.{Bound}
-use Rattle.sparrowhem.specs.declared.edit.Replaced.{Replaced}
-use Rattle.sparrowhem.specs.declared.parts.Placed.TheVariants.{Span, Refused as Unplaced}
 use Rattle.sparrowhem.specs.declared.parts.Newest.{Newest}
-use Rattle.sparrowhem.specs.declared.parts.Newest.TheVariants.{Corrected, OnRecord, Nowhere, Refused as NewestRefused}
-use Rattle.sparrowhem.specs.declared.matcher.Fits.{Fits as Fitting}
-use Rattle.sparrowhem.specs.declared.matcher.Fits.TheVariants.{Yes, No, Refused as PlainRefused}
+use Rattle.sparrowhem.specs.declared.parts.Newest.TheVariants.{Corrected, OnRecord, Nowhere}
 use Rattle.sparrowhem.proofs.Preferring.{one_answer}
 use Rattle.sparrowhem.proofs.Searching.{finds_list}
 use Rattle.promises.specs.Demands.{BuildOne, FindOne, VariablesOne, ReplaceOne, SubtreeOne, SubtreePlaceOne, NewerOne, NewerPlaceOne, PlainOne, BuildOrder, FindOrder, VariablesOrder, ReplaceOrder, SubtreeOrder, NewerOrder, PlainOrder, FindShort, BuildRefused, FindRefused, VariablesRefused, ReplaceRefused, MisclassedAt, WrongBeside, FindStale, VariablesStale, ReplaceStale, SubtreeStale, NewerStale, NewerRefused}
@@ -66,8 +58,8 @@ pair {X} {Y} x y e = ap₂ {C = X × Y} (λ (a : X) (b : Y). (a, b)) e.0 e.1
 
 unfoldable pub build_one : BuildOne
 build_one a P =
-    let c : Check = build_check a P in
-    let some : Check × Programme = (c, after c (built a P) P) in
+    let c : (Result ⊤ Refusal) = build_check a P in
+    let some : (Result ⊤ Refusal) × Programme = (c, after c (built a P) P) in
     let here : Built a P some.0 some.1 = record { answer = refl; lists = refl } in
     record {
       some = some;
@@ -78,8 +70,8 @@ build_one a P =
 unfoldable pub find_one : FindOne
 find_one a P q y =
     let ps : List ℕ = list_of a P.row q in
-    let c : Check = find_check a P q (length ps) (length y) in
-    let some : Found × List ℕ = (found c (length ps), after c (written y 0 ps) y) in
+    let c : (Result ⊤ Refusal) = find_check a P q (length ps) (length y) in
+    let some : (Result ℕ Refusal) × List ℕ = (found c (length ps), after c (written y 0 ps) y) in
     let here : Finds a P q y some.0 some.1 =
     record { positions = ps; listed = λ e. walk_lists a P q (search_checked a P q e); answer = refl; output = refl } in
     record {
@@ -91,8 +83,8 @@ find_one a P q y =
 unfoldable pub variables_one : VariablesOne
 variables_one a P q p y =
     let b : Bool = comes_through P.row (table a.arities P.row) q p in
-    let c : Check = variables_check a P q p (length y) in
-    let some : Bound × List ℕ = (bound c b, after c (pick b (written y 0 (spans a.arities P.row q p)) y) y) in
+    let c : (Result ⊤ Refusal) = variables_check a P q p (length y) in
+    let some : (Result Bool Refusal) × List ℕ = (bound c b, after c (pick b (written y 0 (spans a.arities P.row q p)) y) y) in
     let here : Binds a P q p y some.0 some.1 =
     record {
       matched = b;
@@ -108,9 +100,9 @@ variables_one a P q p y =
 
 unfoldable pub replace_one : ReplaceOne
 replace_one a P n v p =
-    let c : Check = replace_check a P n v p in
+    let c : (Result ⊤ Refusal) = replace_check a P n v p in
     let f : Forest = new_tree a P n v p in
-    let some : Replaced × Programme = (answered c (size f) n, after c (holding P n f) P) in
+    let some : (Result (ℕ × ℤ) Refusal) × Programme = (answered c (size f) n, after c (holding P n f) P) in
     let here : Replacement a P n v p some.0 some.1 = record { answer = refl; lists = refl } in
     record {
       some = some;
@@ -131,8 +123,8 @@ lies_one : (row : ℕ × ℕ) (b : ℕ) → One {X = ℕ × ℕ} (λ x. LiesAt r
 lies_one row b = record { some = (row.0, b * 2 + row.1); holds = (refl, refl); only = λ x h. lies_settled row b x (row.0, b * 2 + row.1) h (refl, refl) }
 
 pub subtree_place_one : SubtreePlaceOne
-subtree_place_one (Span b e) row = lies_one row b
-subtree_place_one (Unplaced r) row = lies_one row 0
+subtree_place_one (Ok (b, e)) row = lies_one row b
+subtree_place_one (Err r) row = lies_one row 0
 
 -- the first of the numbers below n that passes the test, if there is one
 abbrev Least : (ℕ → Bool) → ℕ → Type 0
@@ -171,26 +163,26 @@ first_or_none a P q c =
     fails : (k : ℕ) → k < length P.row → through k ≡ false → MatchesAt a P.row q k → ⊥
     fails k h e m = let d = (walk_right a P q c k h).1 m in let z : ◌≡◌ {A = ℕ} 0 1 = cc in omega arith
 
-newest_some : (a : Alphabet) (P O : Programme) (q : List ℕ) → (r : Newest) × NewestSays a P O q r
+newest_some : (a : Alphabet) (P O : Programme) (q : List ℕ) → (r : Result Newest Refusal) × NewestSays a P O q r
 newest_some a P O q = go (newer_check a P O q) refl
   where
-    go : (c : Check) → newer_check a P O q ≡ c → (r : Newest) × NewestSays a P O q r
-    go (Refused x) e = (NewestRefused x, e)
-    go Fine e =
+    go : (c : Result ⊤ Refusal) → newer_check a P O q ≡ c → (r : Result Newest Refusal) × NewestSays a P O q r
+    go (Err x) e = (Err x, e)
+    go (Ok _) e =
         let both = newer_checked a P O q e in
         ⊎_elim
         (λ none.
         ⊎_elim
-        (λ none_there. (Nowhere, (e, none, none_there)))
-        (λ s. (OnRecord s.0 (get_or (table a.arities O.row) s.0 0), (e, none, s.1)))
+        (λ none_there. (Ok Nowhere, (e, none, none_there)))
+        (λ s. (Ok (OnRecord s.0 (get_or (table a.arities O.row) s.0 0)), (e, none, s.1)))
         (first_or_none a O q both.1))
-        (λ s. (Corrected s.0 (get_or (table a.arities P.row) s.0 0), (e, s.1)))
+        (λ s. (Ok (Corrected s.0 (get_or (table a.arities P.row) s.0 0)), (e, s.1)))
         (first_or_none a P q both.0)
 
 pub newer_one : NewerOne
 newer_one a P O q =
     let s = newest_some a P O q in
-    let some : List ℕ × Newest = (newest_part a P O s.0, s.0) in
+    let some : List ℕ × Result Newest Refusal = (newest_part a P O s.0, s.0) in
     let here : NewerPart a P O q some.0 = record { answer = s.0; says = s.1; part = refl } in
     record {
       some = some;
@@ -205,14 +197,14 @@ newer_place_one a P O q corrected older =
     let here : NewerLies a P O q corrected older lies.some = record { answer = s.0; says = s.1; lies = lies.holds } in
     record { some = lies.some; holds = here; only = λ x h. newer_place_settled a P O q corrected older x lies.some h here }
   where
-    newest_place : (r : Newest) → One {X = ℕ × ℕ} (λ x. NewestLies r corrected older x)
-    newest_place (Corrected p e) = lies_one corrected p
-    newest_place (OnRecord p e) = lies_one older p
-    newest_place Nowhere = lies_one corrected 0
-    newest_place (NewestRefused r) = lies_one corrected 0
+    newest_place : (r : Result Newest Refusal) → One {X = ℕ × ℕ} (λ x. NewestLies r corrected older x)
+    newest_place (Ok (Corrected p e)) = lies_one corrected p
+    newest_place (Ok (OnRecord p e)) = lies_one older p
+    newest_place (Ok Nowhere) = lies_one corrected 0
+    newest_place (Err r) = lies_one corrected 0
 
 -- a row that the plain matcher does not refuse can be searched with its own table and its own classes
-pub plain_checked : (a : Alphabet) (w q : List ℕ) (p : ℕ) → plain_check a w q p ≡ Fine
+pub plain_checked : (a : Alphabet) (w q : List ℕ) (p : ℕ) → plain_check a w q p ≡ Ok tt
     → (t : List ℕ) × (c : List ℕ) × Checked a (programme w t c) q × (p < length w)
 plain_checked a w q p e =
     let old : Programme = programme w (table a.arities w) (classes a.arities w) in
@@ -221,7 +213,7 @@ plain_checked a w q p e =
     let long : length w ≤ room old = omega (arith, length-table a.arities w, (class_of_row a.arities w).0) in
     let both = both_fine (row_check a w then pattern a.arities q) (position (length w) p) (sym (plain_left a w q p) ∙ e) in
     let same = left_row a old b.some.0 left long b.holds in
-    let fine : search_check a left q ≡ Fine =
+    let fine : search_check a left q ≡ (Ok tt) =
     search_left a old b.some.0 left long b.holds q ∙ ap (λ (l : List ℕ). row_check a l then pattern a.arities q) same ∙ both.0 in (
       left.table,
       left.classes,
@@ -229,17 +221,17 @@ plain_checked a w q p e =
       position_fine (length w) p both.1,
     )
 
-plain_some : (a : Alphabet) (w q : List ℕ) (p : ℕ) → (r : Fitting) × PlainSays a w q p r
+plain_some : (a : Alphabet) (w q : List ℕ) (p : ℕ) → (r : Result Bool Refusal) × PlainSays a w q p r
 plain_some a w q p = go (plain_check a w q p) refl
   where
-    go : (c : Check) → plain_check a w q p ≡ c → (r : Fitting) × PlainSays a w q p r
-    go (Refused x) e = (PlainRefused x, e)
-    go Fine e = let c = plain_checked a w q p e in tells (comes_through w (table a.arities w) q p) refl (walk_right a (programme w c.0 c.1) q c.2 p c.3)
+    go : (c : Result ⊤ Refusal) → plain_check a w q p ≡ c → (r : Result Bool Refusal) × PlainSays a w q p r
+    go (Err x) e = (Err x, e)
+    go (Ok _) e = let c = plain_checked a w q p e in tells (comes_through w (table a.arities w) q p) refl (walk_right a (programme w c.0 c.1) q c.2 p c.3)
       where
         tells : (b : Bool) → comes_through w (table a.arities w) q p ≡ b → (comes_through w (table a.arities w) q p ≡ true) ↔ MatchesAt a w q p
-            → (r : Fitting) × PlainSays a w q p r
-        tells true z m = (Yes, (e, m.0 z))
-        tells false z m = (No, (e, λ x. (let d = m.1 x in let k : ◌≡◌ {A = ℕ} 0 1 = cc in omega arith)))
+            → (r : Result Bool Refusal) × PlainSays a w q p r
+        tells true z m = (Ok true, (e, m.0 z))
+        tells false z m = (Ok false, (e, λ x. (let d = m.1 x in let k : ◌≡◌ {A = ℕ} 0 1 = cc in omega arith)))
 
 pub plain_one : PlainOne
 plain_one a w q p =
@@ -273,60 +265,60 @@ unfolding subtree_answer
 subtree_order a P p k x = placed-said (subtree_check a P p) p (get_or (table a.arities P.row) p 0) k x
 
 -- a check that refuses, refuses so
-refuses_is : (c : Check) (r : Refusal) (k x : ℕ) → c ≡ Refused r → refusal r ≡ refused k x → Refuses c k x
-refuses_is c r k x e h = subst (λ (d : Check). Refuses d k x) (sym e) ((refusal-said r k x).0 h)
+refuses_is : (c : Result ⊤ Refusal) (r : Refusal) (k x : ℕ) → c ≡ Err r → refusal r ≡ refused k x → Refuses c k x
+refuses_is c r k x e h = subst (λ (d : Result ⊤ Refusal). Refuses d k x) (sym e) ((refusal-said r k x).0 h)
 
-refuses_some : (c : Check) (k x : ℕ) → Refuses c k x → (r : Refusal) × (c ≡ Refused r) × (refusal r ≡ refused k x)
-refuses_some Fine k x h = absurd h
-refuses_some (Refused r) k x h = (r, refl, (refusal-said r k x).1 h)
+refuses_some : (c : Result ⊤ Refusal) (k x : ℕ) → Refuses c k x → (r : Refusal) × (c ≡ Err r) × (refusal r ≡ refused k x)
+refuses_some (Ok _) k x h = absurd h
+refuses_some (Err r) k x h = (r, refl, (refusal-said r k x).1 h)
 
 pub newer_order : NewerOrder
 newer_order a P O q r h k x = (
   λ e. (let y = newest_refusal r k x e in refuses_is _ y.0 k x (subst (NewestSays a P O q) y.1 h) (ap newest_said (sym y.1) ∙ e)),
-  λ z. (let y = refuses_some _ k x z in ap newest_said (one_answer a P O q r (NewestRefused y.0) h y.1) ∙ y.2),
+  λ z. (let y = refuses_some _ k x z in ap newest_said (one_answer a P O q r (Err y.0) h y.1) ∙ y.2),
 )
 
 pub plain_order : PlainOrder
 plain_order a w q p r h k x = (
   λ e. (let y = fits_refusal r k x e in refuses_is _ y.0 k x (subst (PlainSays a w q p) y.1 h) (ap fits_said (sym y.1) ∙ e)),
-  λ z. (let y = refuses_some _ k x z in ap fits_said (plain_settled a w q p r (PlainRefused y.0) h y.1) ∙ y.2),
+  λ z. (let y = refuses_some _ k x z in ap fits_said (plain_settled a w q p r (Err y.0) h y.1) ∙ y.2),
 )
 
 pub find_short : FindShort
 unfolding find_check output
-find_short a P q y r y' f e ps l = (λ z. go (dec_lt (length y) (length ps)) z, λ h. (let short : r ≡ FoundRefused (OutputShort (length ps)) = answer ∙ rw (lt-ltb (length y) (length ps) h) refl in ap found_said short))
+find_short a P q y r y' f e ps l = (λ z. go (dec_lt (length y) (length ps)) z, λ h. (let short : r ≡ Err (OutputShort (length ps)) = answer ∙ rw (lt-ltb (length y) (length ps) h) refl in ap found_said short))
   where
     answer : r ≡ found (output (length ps) (length y)) (length ps)
-    answer = (finds_list a P q y r y' f ps (λ e. l)).0 ∙ ap (λ (c : Check). found (c then output (length ps) (length y)) (length ps)) e
+    answer = (finds_list a P q y r y' f ps (λ e. l)).0 ∙ ap (λ (c : Result ⊤ Refusal). found (c then output (length ps) (length y)) (length ps)) e
 
     go : Dec (length y < length ps) → found_said r ≡ refused 19 (length ps) → length y < length ps
     go (yes h) z = h
     go (no h) z =
-        let fits : r ≡ Matches (length ps) = answer ∙ rw (le-ltb (length y) (length ps) (omega arith)) refl in
+        let fits : r ≡ Ok (length ps) = answer ∙ rw (le-ltb (length y) (length ps) (omega arith)) refl in
         absurd (apart _ _ _ (sym z ∙ ap found_said fits))
 
 -- ---- a refusal writes nothing
 
 pub build_refused : BuildRefused
-build_refused a P r P' b k x e = let y = check_refusal r k x e in build_kept a P y.0 P' (subst (λ (c : Check). Built a P c P') y.1 b)
+build_refused a P r P' b k x e = let y = check_refusal r k x e in build_kept a P y.0 P' (subst (λ (c : Result ⊤ Refusal). Built a P c P') y.1 b)
 
 pub find_refused : FindRefused
-find_refused a P q y r y' f k x e = let z = found-refusal r k x e in find_kept a P q y z.0 y' (subst (λ (c : Found). Finds a P q y c y') z.1 f)
+find_refused a P q y r y' f k x e = let z = found-refusal r k x e in find_kept a P q y z.0 y' (subst (λ (c : Result ℕ Refusal). Finds a P q y c y') z.1 f)
 
 pub variables_refused : VariablesRefused
-variables_refused a P q p y r y' f k x e = let z = bound-refusal r k x e in variables-kept a P q p y z.0 y' (subst (λ (c : Bound). Binds a P q p y c y') z.1 f)
+variables_refused a P q p y r y' f k x e = let z = bound-refusal r k x e in variables-kept a P q p y z.0 y' (subst (λ (c : Result Bool Refusal). Binds a P q p y c y') z.1 f)
 
 pub replace_refused : ReplaceRefused
-replace_refused a P n v p r P' o k x e = let z = replaced_refusal r k x e in stayed a P n v p P' z.0 (subst (λ (c : Replaced). Replacement a P n v p c P') z.1 o)
+replace_refused a P n v p r P' o k x e = let z = replaced_refusal r k x e in stayed a P n v p P' z.0 (subst (λ (c : Result (ℕ × ℤ) Refusal). Replacement a P n v p c P') z.1 o)
 
 -- ---- what is kept is not the row's
 
 -- what is left of 4 to 6 holds whose row it is
-pub sizes_fine : (whose : Kept → Refusal) (n m : ℕ) → Fits n m → sizes whose n m ≡ Fine
+pub sizes_fine : (whose : Kept → Refusal) (n m : ℕ) → Fits n m → sizes whose n m ≡ Ok tt
 unfolding sizes sized
 sizes_fine whose n m f = simp (le-ltb n 1 f.some, le-ltb row_most n f.most, le-ltb m n f.room)
 
-pub on_refuses : (c d : Check) (k x : ℕ) → Refuses c k x → Refuses (c then d) k x
+pub on_refuses : (c d : Result ⊤ Refusal) (k x : ℕ) → Refuses c k x → Refuses (c then d) k x
 on_refuses c d k x h = (table-of-refusals.order c d k x).1 (inl h)
 
 module _ (a : Alphabet) (P : Programme) (n : ℕ) where
@@ -338,13 +330,13 @@ module _ (a : Alphabet) (P : Programme) (n : ℕ) where
 
   -- where 1 to 9 refuse nothing
   record Read : Type 0 where
-    alphabet_fine : alphabet a ≡ Fine
-    sizes_fit : sizes Row n (room P) ≡ Fine
-    symbols_fine : symbols Row A w ≡ Fine
+    alphabet_fine : alphabet a ≡ Ok tt
+    sizes_fit : sizes Row n (room P) ≡ Ok tt
+    symbols_fine : symbols Row A w ≡ Ok tt
     table-room : length w ≤ length P.table
     class_room : length w ≤ length P.classes
 
-  read_up_to : alphabet a then sizes Row n (room P) then symbols Row A w ≡ Fine → Read
+  read_up_to : alphabet a then sizes Row n (room P) then symbols Row A w ≡ Ok tt → Read
   read_up_to e =
       let x = both_fine (alphabet a) (sizes Row n (room P) then symbols Row A w) e in
       let y = both_fine (sizes Row n (room P)) (symbols Row A w) x.1 in
@@ -358,11 +350,11 @@ module _ (a : Alphabet) (P : Programme) (n : ℕ) where
       }
 
   -- and 10 neither
-  entered : (p : ℕ) → MisclassedAt a P n p → Read × (fresh Row A w P.table ≡ Fine)
+  entered : (p : ℕ) → MisclassedAt a P n p → Read × (fresh Row A w P.table ≡ Ok tt)
   entered p s =
-      let b : Check = fresh Row A w P.table in
+      let b : (Result ⊤ Refusal) = fresh Row A w P.table in
       let x = both_fine (alphabet a then sizes Row n (room P) then symbols Row A w) b
-      (then_assoc (alphabet a) (sizes Row n (room P) then symbols Row A w) b ∙ ap (λ (c : Check). alphabet a then c) (then_assoc (sizes Row n (room P)) (symbols Row A w) b) ∙ s.earlier) in
+      (then_assoc (alphabet a) (sizes Row n (room P) then symbols Row A w) b ∙ ap (λ (c : Result ⊤ Refusal). alphabet a then c) (then_assoc (sizes Row n (room P)) (symbols Row A w) b) ∙ s.earlier) in
       (read_up_to x.0, x.1)
 
   -- the chain of checks refuses it, whatever comes behind it

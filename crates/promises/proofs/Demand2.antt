@@ -1,5 +1,6 @@
 -- Demand 2 of specs/Demands, each sentence with its proof.
 -- Assumes nothing.
+use Rattle.std.specs.Prelude.{Result, Ok, Err, ⊤}
 use Prim.Native.Nat.{ℕ, ◌+◌, ◌-◌, ◌<◌, ◌≤◌}
 use mathlib.Core.Path.{◌≡◌, refl, sym, ap, ap₂, ◌∙◌, subst, subst₂}
 use mathlib.Core.List.{List, [], ◌∷◌}
@@ -21,8 +22,6 @@ use Rattle.rows.specs.declared.Leaves.{Leaves}
 use Rattle.rows.specs.declared.Leaves.TheVariants.{Symbols, Blanks}
 use Rattle.rows.specs.declared.Refusal.{Refusal}
 use Rattle.rows.specs.declared.Refusal.TheVariants.{Row}
-use Rattle.rows.specs.declared.Check.{Check}
-use Rattle.rows.specs.declared.Check.TheVariants.{Fine}
 use Rattle.rows.proofs.Buffers.{written-front, written_behind}
 use Rattle.rows.proofs.Entry.{length-table}
 use Rattle.rows.proofs.Passing.{clash, row_fine, pattern_fine}
@@ -42,15 +41,8 @@ use Rattle.sparrowhem.specs.Said.{Said.refused, Said.gives, check_said, found_sa
 use Rattle.sparrowhem.specs.Build.{Built}
 use Rattle.sparrowhem.specs.Search.{Finds, bound, Binds}
 use Rattle.sparrowhem.specs.Parts.{subtree_part, subtree_answer, NewestSays}
-use Rattle.sparrowhem.specs.declared.search.Found.{Found}
-use Rattle.sparrowhem.specs.declared.search.Found.TheVariants.{Matches}
-use Rattle.sparrowhem.specs.declared.search.Bound.{Bound}
-use Rattle.sparrowhem.specs.declared.search.Bound.TheVariants.{Matched, Unmatched, Refused as BindRefused}
-use Rattle.sparrowhem.specs.declared.parts.Placed.{Placed}
-use Rattle.sparrowhem.specs.declared.parts.Placed.TheVariants.{Span, Refused as Unplaced}
 use Rattle.sparrowhem.specs.declared.parts.Newest.{Newest}
-use Rattle.sparrowhem.specs.declared.parts.Newest.TheVariants.{Corrected, OnRecord, Nowhere, Refused as NewestRefused}
-use Rattle.sparrowhem.specs.declared.matcher.Fits.TheVariants.{Yes, No, Refused as PlainRefused}
+use Rattle.sparrowhem.specs.declared.parts.Newest.TheVariants.{Corrected, OnRecord, Nowhere}
 use Rattle.sparrowhem.proofs.Handing.{answer_span, answer_none, span_within, span_part}
 use Rattle.sparrowhem.proofs.Searching.{finds_matches}
 use Rattle.promises.specs.Demands.{RowsAccepted, PatternsAccepted, ReplacementsAccepted, BuildAccepts, BuildWrites, FindLists, VariablesExactly, PlainExactly, PlainFinds, PlainRefuses, SubtreePartIs, SubtreeEmpty, NewerPartIs, NewerEmpty}
@@ -92,8 +84,8 @@ build_accepts a P r P' b alpha size = (to, from)
     only : r ≡ symbols Row a.arities P.row
     only =
         b.answer
-        ∙ ap (λ (c : Check). c then sizes Row (length P.row) (room P) then symbols Row a.arities P.row) alpha
-        ∙ ap (λ (c : Check). c then symbols Row a.arities P.row) size
+        ∙ ap (λ (c : Result ⊤ Refusal). c then sizes Row (length P.row) (room P) then symbols Row a.arities P.row) alpha
+        ∙ ap (λ (c : Result ⊤ Refusal). c then symbols Row a.arities P.row) size
 
     to : check_said r ≡ gives [] → IsRow a.arities (symbol a.arities) P.row
     to e = (rows_accepted a.arities P.row).0 (sym only ∙ fine_said r e)
@@ -106,7 +98,7 @@ unfolding classes
 build_writes a P r P' b e x =
     let A : List ℕ = a.arities in
     let w : List ℕ = P.row in
-    let now = build_fine a P P' (subst (λ (c : Check). Built a P c P') (fine_said r e) b) in
+    let now = build_fine a P P' (subst (λ (c : Result ⊤ Refusal). Built a P c P') (fine_said r e) b) in
     let table_now : P'.table ≡ written P.table 0 (table A w) = ap (λ (y : Programme). y.table) now in
     let long = length-table A w in
     let front : take (length w) P'.table ≡ table A w =
@@ -144,8 +136,8 @@ build_writes a P r P' b e x =
 
 pub find_lists : FindLists
 find_lists a P q y n r y' f e =
-    let g = subst (λ (s : Found). Finds a P q y s y') (matches_said r n e) f in
-    let m = finds_matches a P q y (Matches n) y' g n refl in
+    let g = subst (λ (s : Result ℕ Refusal). Finds a P q y s y') (matches_said r n e) f in
+    let m = finds_matches a P q y (Ok n) y' g n refl in
     let l = find_all a P q y n y' g in
     (l.0, ap length (ap₂ take m.many m.wrote ∙ written-front y g.positions) ∙ sym m.many, l.2)
 
@@ -171,28 +163,28 @@ module _ (a : Alphabet) (P : Programme) (q : List ℕ) (c : Checked a P q) (p : 
 
 module _ (a : Alphabet) (P : Programme) (q : List ℕ) (p : ℕ) (y y' : List ℕ) where
   -- places behind the spans stay
-  binds_later : (r : Bound) → Binds a P q p y r y' → drop span_places y' ≡ drop span_places y
-  binds_later Matched b = (variables_matched a P q p y y' b).2
-  binds_later Unmatched b = ap (drop span_places) (variables_unmatched a P q p y y' b).1
-  binds_later (BindRefused x) b = ap (drop span_places) (variables-kept a P q p y x y' b)
+  binds_later : (r : Result Bool Refusal) → Binds a P q p y r y' → drop span_places y' ≡ drop span_places y
+  binds_later (Ok true) b = (variables_matched a P q p y y' b).2
+  binds_later (Ok false) b = ap (drop span_places) (variables_unmatched a P q p y y' b).1
+  binds_later (Err x) b = ap (drop span_places) (variables-kept a P q p y x y' b)
 
   -- where nothing is refused, matched is said of a match, and unmatched where there is none
-  pub record Told (r : Bound) : Type 0 where
-    pub matched : (r ≡ Matched) ↔ MatchesAt a P.row q p
-    pub unmatched : (r ≡ Unmatched) ↔ (MatchesAt a P.row q p → ⊥)
+  pub record Told (r : Result Bool Refusal) : Type 0 where
+    pub matched : (r ≡ Ok true) ↔ MatchesAt a P.row q p
+    pub unmatched : (r ≡ Ok false) ↔ (MatchesAt a P.row q p → ⊥)
 
-  pub binds_told : (r : Bound) → Binds a P q p y r y' → variables_check a P q p (length y) ≡ Fine → Told r
-  binds_told Matched b e =
+  pub binds_told : (r : Result Bool Refusal) → Binds a P q p y r y' → variables_check a P q p (length y) ≡ Ok tt → Told r
+  binds_told (Ok true) b e =
       let m = (variables_matched a P q p y y' b).0 in
       record { matched = (λ z. m, λ z. refl); unmatched = (λ z. (let k : ◌≡◌ {A = ℕ} 0 1 = cc in absurd (omega arith)), λ n. absurd (n m)) }
-  binds_told Unmatched b e =
+  binds_told (Ok false) b e =
       let n = (variables_unmatched a P q p y y' b).0 in
       record { matched = (λ z. (let k : ◌≡◌ {A = ℕ} 0 1 = cc in absurd (omega arith)), λ m. absurd (n m)); unmatched = (λ z. n, λ z. refl) }
-  binds_told (BindRefused x) b e =
-      let z : BindRefused x ≡ bound Fine b.matched = b.answer ∙ ap (λ (c : Check). bound c b.matched) e in
+  binds_told (Err x) b e =
+      let z : Err x ≡ bound (Ok tt) b.matched = b.answer ∙ ap (λ (c : Result ⊤ Refusal). bound c b.matched) e in
       absurd (refuses b.matched z)
     where
-      refuses : (m : Bool) → BindRefused x ≡ bound Fine m → ⊥
+      refuses : (m : Bool) → Err x ≡ bound (Ok tt) m → ⊥
       refuses true z = let k : ◌≡◌ {A = ℕ} 0 1 = cc in omega arith
       refuses false z = let k : ◌≡◌ {A = ℕ} 0 1 = cc in omega arith
 
@@ -201,7 +193,7 @@ variables_exactly a P q p y r y' b fine =
     let c = variables_checked a P q p (length y) fine in
     let told = binds_told a P q p y y' r b fine in
     let wrote : MatchesAt a P.row q p → take span_places y' ≡ spans a.arities P.row q p =
-    λ m. (variables_matched a P q p y y' (subst (λ (s : Bound). Binds a P q p y s y') (told.matched.1 m) b)).1 in
+    λ m. (variables_matched a P q p y y' (subst (λ (s : Result Bool Refusal). Binds a P q p y s y') (told.matched.1 m) b)).1 in
     record {
       below = c.1;
       matched = (λ z. told.matched.0 (matched_said r z), λ m. ap bound_said (told.matched.1 m));
@@ -210,13 +202,13 @@ variables_exactly a P q p y r y' b fine =
       first = λ m. first_there a P q c.0 p c.1 m y' (wrote m);
       absent = λ m. none_there a P q c.0 p c.1 m y' (wrote m);
       later = binds_later a P q p y y' r b;
-      unwritten = λ n. (variables_unmatched a P q p y y' (subst (λ (s : Bound). Binds a P q p y s y') (told.unmatched.1 n) b)).1;
+      unwritten = λ n. (variables_unmatched a P q p y y' (subst (λ (s : Result Bool Refusal). Binds a P q p y s y') (told.unmatched.1 n) b)).1;
     }
 
 pub plain_exactly : PlainExactly
-plain_exactly a w q p Yes h fine = ((λ z. h.1, λ m. refl), (λ z. (let k : ◌≡◌ {A = ℕ} 0 1 = cc (no_said Yes z) in absurd (omega arith)), λ n. absurd (n h.1)))
-plain_exactly a w q p No h fine = ((λ z. (let k : ◌≡◌ {A = ℕ} 0 1 = cc (yes_said No z) in absurd (omega arith)), λ m. absurd (h.1 m)), (λ z. h.1, λ n. refl))
-plain_exactly a w q p (PlainRefused x) h fine = absurd (clash _ x fine h)
+plain_exactly a w q p (Ok true) h fine = ((λ z. h.1, λ m. refl), (λ z. (let k : ◌≡◌ {A = ℕ} 0 1 = cc (no_said (Ok true) z) in absurd (omega arith)), λ n. absurd (n h.1)))
+plain_exactly a w q p (Ok false) h fine = ((λ z. (let k : ◌≡◌ {A = ℕ} 0 1 = cc (yes_said (Ok false) z) in absurd (omega arith)), λ m. absurd (h.1 m)), (λ z. h.1, λ n. refl))
+plain_exactly a w q p (Err x) h fine = absurd (clash _ x fine h)
 
 -- ---- plain matcher and find
 
@@ -241,7 +233,7 @@ plain_refuses a P q y f y' p r b k x small = (
 
 -- ---- parts of rows
 
-part_of : (a : Alphabet) (P : Programme) (p b e : ℕ) → subtree_answer a P p ≡ Span b e
+part_of : (a : Alphabet) (P : Programme) (p b e : ℕ) → subtree_answer a P p ≡ Ok (b, e)
     → (b ≡ p) × (b < e) × (e ≤ length P.row) × (subtree_part a P p ≡ take (e - b) (drop b P.row))
 part_of a P p b e h =
     let s = answer_span a P p b e h in
@@ -263,9 +255,9 @@ subtree_empty a P p = (
   λ x. (let z = placed-refusal (subtree_answer a P p) x.0 x.1 x.2 in answer_none a P p z.0 z.1),
 )
   where
-    from : (r : Placed) → subtree_answer a P p ≡ r → subtree_part a P p ≡ [] → (k : ℕ) × (x : ℕ) × (placed_said (subtree_answer a P p) ≡ refused k x)
-    from (Unplaced r) h none = (number r, place r, ap placed_said h)
-    from (Span b e) h none = let s = part_of a P p b e h in absurd (some_part P.row b e s.1 s.2 (sym s.3 ∙ none))
+    from : (r : Result (ℕ × ℕ) Refusal) → subtree_answer a P p ≡ r → subtree_part a P p ≡ [] → (k : ℕ) × (x : ℕ) × (placed_said (subtree_answer a P p) ≡ refused k x)
+    from (Err r) h none = (number r, place r, ap placed_said h)
+    from (Ok (b, e)) h none = let s = part_of a P p b e h in absurd (some_part P.row b e s.1 s.2 (sym s.3 ∙ none))
 
 pub newer_part_is : NewerPartIs
 newer_part_is a P O q x r p e h k = (
@@ -276,21 +268,21 @@ newer_part_is a P O q x r p e h k = (
 pub newer_empty : NewerEmpty
 newer_empty a P O q x r h k = (λ none. to r k none, λ c. from r k c)
   where
-    Empty : Newest → Type 0
+    Empty : Result Newest Refusal → Type 0
     Empty r = (newest_said r ≡ gives (pos 0 ∷ [])) ⊎ ((k : ℕ) × (y : ℕ) × (newest_said r ≡ refused k y))
 
-    to : (r : Newest) → NewestSays a P O q r → x ≡ [] → Empty r
-    to (Corrected p e) k none = let l = (newer_lies a P O q x p e h).0 k in absurd (some_part P.row p e l.0 l.1 (sym l.2 ∙ none))
-    to (OnRecord p e) k none = let l = (newer_lies a P O q x p e h).1 k in absurd (some_part O.row p e l.0 l.1 (sym l.2 ∙ none))
-    to Nowhere k none = inl refl
-    to (NewestRefused y) k none = inr (number y, place y, refl)
+    to : (r : Result Newest Refusal) → NewestSays a P O q r → x ≡ [] → Empty r
+    to (Ok (Corrected p e)) k none = let l = (newer_lies a P O q x p e h).0 k in absurd (some_part P.row p e l.0 l.1 (sym l.2 ∙ none))
+    to (Ok (OnRecord p e)) k none = let l = (newer_lies a P O q x p e h).1 k in absurd (some_part O.row p e l.0 l.1 (sym l.2 ∙ none))
+    to (Ok Nowhere) k none = inl refl
+    to (Err y) k none = inr (number y, place y, refl)
 
     -- neither of the others says so
-    other : (r : Newest) → (r ≡ Nowhere → ⊥) → ((y : Refusal) → r ≡ NewestRefused y → ⊥) → Empty r → ⊥
+    other : (r : Result Newest Refusal) → (r ≡ Ok Nowhere → ⊥) → ((y : Refusal) → r ≡ Err y → ⊥) → Empty r → ⊥
     other r n m c = ⊎_elim (λ z. n (nowhere_said r z)) (λ z. (let y = newest_refusal r z.0 z.1 z.2 in m y.0 y.1)) c
 
-    from : (r : Newest) → NewestSays a P O q r → Empty r → x ≡ []
-    from (Corrected p e) k c = absurd (other (Corrected p e) (λ z. (let y : ◌≡◌ {A = ℕ} 0 1 = cc in omega arith)) (λ w z. (let y : ◌≡◌ {A = ℕ} 0 1 = cc in omega arith)) c)
-    from (OnRecord p e) k c = absurd (other (OnRecord p e) (λ z. (let y : ◌≡◌ {A = ℕ} 0 1 = cc in omega arith)) (λ w z. (let y : ◌≡◌ {A = ℕ} 0 1 = cc in omega arith)) c)
-    from Nowhere k c = newer_answers a P O q x Nowhere h k
-    from (NewestRefused y) k c = newer_answers a P O q x (NewestRefused y) h k
+    from : (r : Result Newest Refusal) → NewestSays a P O q r → Empty r → x ≡ []
+    from (Ok (Corrected p e)) k c = absurd (other (Ok (Corrected p e)) (λ z. (let y : ◌≡◌ {A = ℕ} 0 1 = cc in omega arith)) (λ w z. (let y : ◌≡◌ {A = ℕ} 0 1 = cc in omega arith)) c)
+    from (Ok (OnRecord p e)) k c = absurd (other (Ok (OnRecord p e)) (λ z. (let y : ◌≡◌ {A = ℕ} 0 1 = cc in omega arith)) (λ w z. (let y : ◌≡◌ {A = ℕ} 0 1 = cc in omega arith)) c)
+    from (Ok Nowhere) k c = newer_answers a P O q x (Ok Nowhere) h k
+    from (Err y) k c = newer_answers a P O q x (Err y) h k

@@ -1,5 +1,6 @@
 -- Demand 3 of specs/Demands, each sentence with its proof.
 -- Assumes nothing.
+use Rattle.std.specs.Prelude.{Result, Ok, Err, ⊤}
 use Prim.Native.Nat.{ℕ, ◌+◌, ◌≤◌, ◌<◌}
 use mathlib.Core.Path.{◌≡◌, refl, sym, ap, ◌∙◌, subst}
 use mathlib.Core.List.{List, [], ◌∷◌, map}
@@ -20,8 +21,6 @@ use Rattle.rows.specs.Row.{pick, symbol}
 use Rattle.rows.specs.Refusals.{◌then◌, alphabet, sizes, symbols, fresh, classed, kept, given, pattern, position, output}
 use Rattle.rows.specs.declared.Refusal.{Refusal}
 use Rattle.rows.specs.declared.Refusal.TheVariants.{Row}
-use Rattle.rows.specs.declared.Check.{Check}
-use Rattle.rows.specs.declared.Check.TheVariants.{Fine, Refused}
 use Rattle.rows.proofs.Tree.{length-prefix}
 use Rattle.rows.proofs.Parse.{size-parse}
 use Rattle.rows.proofs.Passing.{both_fine, sizes_fits, below}
@@ -38,12 +37,6 @@ use Rattle.sparrowhem.specs.Build.{Built}
 use Rattle.sparrowhem.specs.Search.{bound, Binds}
 use Rattle.sparrowhem.specs.Edit.{Replacement}
 use Rattle.sparrowhem.specs.Plain.{PlainSays}
-use Rattle.sparrowhem.specs.declared.search.Bound.{Bound}
-use Rattle.sparrowhem.specs.declared.search.Bound.TheVariants.{Matched, Unmatched, Refused as BindRefused}
-use Rattle.sparrowhem.specs.declared.edit.Replaced.{Replaced}
-use Rattle.sparrowhem.specs.declared.edit.Replaced.TheVariants.{Done}
-use Rattle.sparrowhem.specs.declared.matcher.Fits.{Fits}
-use Rattle.sparrowhem.specs.declared.matcher.Fits.TheVariants.{Yes, No, Refused as PlainRefused}
 use Rattle.promises.specs.Runs.{edits}
 use Rattle.promises.specs.Demands.{moved_span, ReplaceWrites, AfterRun, Beside, VariablesStay, FindStays, PlainStays, PuttingBack, EitherOrder}
 use Rattle.promises.proofs.Said.{fine_said, matched_said, done_said}
@@ -56,9 +49,9 @@ use Rattle.promises.proofs.Demand1.{sizes_fine}
 use Rattle.promises.proofs.Demand2.{Told, binds_told, find_lists}
 
 -- a replacement that says so has done so
-done : (a : Alphabet) (P : Programme) (n : ℕ) (v : List ℕ) (p m : ℕ) (change : ℤ) (r : Replaced) (P' : Programme)
-    → Replacement a P n v p r P' → replaced_said r ≡ gives (pos m ∷ change ∷ []) → Replacement a P n v p (Done m change) P'
-done a P n v p m change r P' o e = subst (λ (s : Replaced). Replacement a P n v p s P') (done_said r m change e) o
+done : (a : Alphabet) (P : Programme) (n : ℕ) (v : List ℕ) (p m : ℕ) (change : ℤ) (r : Result (ℕ × ℤ) Refusal) (P' : Programme)
+    → Replacement a P n v p r P' → replaced_said r ≡ gives (pos m ∷ change ∷ []) → Replacement a P n v p (Ok (m, change)) P'
+done a P n v p m change r P' o e = subst (λ (s : Result (ℕ × ℤ) Refusal). Replacement a P n v p s P') (done_said r m change e) o
 
 pub replace_writes : ReplaceWrites
 replace_writes a P n v p m change r P' o e = went_written a P n v p m change P' (done a P n v p m change r P' o e)
@@ -66,7 +59,7 @@ replace_writes a P n v p m change r P' o e = went_written a P n v p m change P' 
 -- ---- runs
 
 -- what is held is fine with the front of its buffer alone
-pub front-given : (a : Alphabet) (P : Programme) (n : ℕ) → given a P n ≡ Fine → given a (front n P) (length (front n P).row) ≡ Fine
+pub front-given : (a : Alphabet) (P : Programme) (n : ℕ) → given a P n ≡ Ok tt → given a (front n P) (length (front n P).row) ≡ Ok tt
 unfolding given kept
 front-given a P n e =
     let A : List ℕ = a.arities in
@@ -74,7 +67,7 @@ front-given a P n e =
     let x = both_fine (alphabet a) (kept Row a P n) e in
     let h = given_held a P n e in
     let long : length w ≡ n = length-take-le n P.row (omega (arith, h.fits)) in
-    let sized : sizes Row (length w) (room (front n P)) ≡ Fine =
+    let sized : sizes Row (length w) (room (front n P)) ≡ (Ok tt) =
     sizes_fine Row (length w) (room (front n P)) (record { some = omega (arith, h.some); most = omega (arith, h.most); room = omega (arith, h.fits) }) in
     let rest = (both_fine (sizes Row n (room P)) (symbols Row A w then fresh Row A w P.table then classed Row A w P.classes) x.1).1 in
     let all : take (length w) w ≡ w = take_all (length w) w (omega arith) in
@@ -82,26 +75,26 @@ front-given a P n e =
 
 -- a fresh build of what is held accepts it and gives its table and its classes
 fresh-built : (a : Alphabet) (P : Programme) (n : ℕ) (f : Forest) → Holds a P n f
-    → (T : Programme) (r : Check) (T' : Programme) → T.row ≡ take n P.row → n ≤ room T → Built a T r T'
+    → (T : Programme) (r : Result ⊤ Refusal) (T' : Programme) → T.row ≡ take n P.row → n ≤ room T → Built a T r T'
     → (check_said r ≡ gives []) × (cut n P ≡ cut n T')
 unfolding build_check given kept
 fresh-built a P n f h T r T' is enough b =
     let A : List ℕ = a.arities in
     let w : List ℕ = take n P.row in
     let x = both_fine (alphabet a) (kept Row a P n) h.fine in
-    let beside : Check = fresh Row A w P.table then classed Row A w P.classes in
+    let beside : (Result ⊤ Refusal) = fresh Row A w P.table then classed Row A w P.classes in
     let y = both_fine (sizes Row n (room P)) (symbols Row A w then beside) x.1 in
     let whole = (both_fine (symbols Row A w) beside y.1).0 in
     let fits = sizes_fits Row n (room P) y.0 in
     let long : length T.row ≡ n = ap length is ∙ length-take-le n P.row (omega (arith, fits.room)) in
-    let sized : sizes Row (length T.row) (room T) ≡ Fine =
+    let sized : sizes Row (length T.row) (room T) ≡ (Ok tt) =
     sizes_fine Row (length T.row) (room T) (record { some = omega (arith, fits.some); most = omega (arith, fits.most); room = omega arith }) in
-    let fine : build_check a T ≡ Fine = rw (x.0, sized) (ap (symbols Row A) is ∙ whole) in
-    let accepted : r ≡ Fine = b.answer ∙ fine in
-    let now = build_fine a T T' (subst (λ (c : Check). Built a T c T') accepted b) in
+    let fine : build_check a T ≡ (Ok tt) = rw (x.0, sized) (ap (symbols Row A) is ∙ whole) in
+    let accepted : r ≡ (Ok tt) = b.answer ∙ fine in
+    let now = build_fine a T T' (subst (λ (c : Result ⊤ Refusal). Built a T c T') accepted b) in
     let rows : T'.row ≡ take n P.row = ap (λ (x : Programme). x.row) now ∙ is in
     let same : front n T' ≡ T' = ap (λ (l : List ℕ). programme l T'.table T'.classes) (ap (take n) rows ∙ take-take n n P.row (omega arith) ∙ sym rows) in
-    let held = built-holds a T T' n (subst (Built a T Fine) (sym same) (subst (λ (c : Check). Built a T c T') accepted b)) long in (
+    let held = built-holds a T T' n (subst (Built a T (Ok tt)) (sym same) (subst (λ (c : Result ⊤ Refusal). Built a T c T') accepted b)) long in (
       ap check_said accepted,
       same_programme (sym (ap (take n) rows ∙ take-take n n P.row (omega arith)))
           (h.table_is ∙ ap (ends 0) (sym h.tree ∙ ap (parse A) (sym is)) ∙ sym held.table_is)
@@ -113,7 +106,7 @@ after_run a T r P n b e long x calls s run =
     let A : List ℕ = a.arities in
     let start = (tree_of_row A (symbol A) T.row x).0 in
     let now = run_holds a calls (record { lists = P; length = n }) s (parse A T.row)
-    (built-holds a T P n (subst (λ (c : Check). Built a T c (front n P)) (fine_said r e) b) long) run in
+    (built-holds a T P n (subst (λ (c : Result ⊤ Refusal). Built a T c (front n P)) (fine_said r e) b) long) run in
     let h = given_held a s.lists s.length now.fine in
     let at = ap (λ (f : Forest). edits A f calls) start in
     record {
@@ -127,8 +120,8 @@ after_run a T r P n b e long x calls s run =
 
 -- what the contracts of the searches need of the subtree before and after
 record Same (a : Alphabet) (P : Programme) (n p m : ℕ) (P' : Programme) (q q' : ℕ) (Q : List ℕ) : Type 0 where
-  before_fine : given a (front n P) (length (front n P).row) ≡ Fine
-  after_fine : given a (front m P') (length (front m P').row) ≡ Fine
+  before_fine : given a (front n P) (length (front n P).row) ≡ Ok tt
+  after_fine : given a (front m P') (length (front m P').row) ≡ Ok tt
   before-below : q < length (front n P).row
   after-below : q' < length (front m P').row
   matches : MatchesAt a (front m P').row Q q' ↔ MatchesAt a (front n P).row Q q
@@ -184,7 +177,7 @@ beside_same a P n p m P' q q' b Q =
     })
 
 -- with lists that are fine and room in the output, only the pattern can be refused
-bind_pattern : (a : Alphabet) (P : Programme) (q : List ℕ) (p m : ℕ) → given a P (length P.row) ≡ Fine → p < length P.row → span_places ≤ m
+bind_pattern : (a : Alphabet) (P : Programme) (q : List ℕ) (p m : ℕ) → given a P (length P.row) ≡ Ok tt → p < length P.row → span_places ≤ m
     → variables_check a P q p m ≡ pattern a.arities q
 unfolding variables_check search_check position output
 bind_pattern a P q p m g h k = rw (g, lt-leb (length P.row) p h, le-ltb m span_places k) (then_fine (pattern a.arities q))
@@ -199,34 +192,34 @@ variables_stay a P n p m P' q q' b Q y r y' z s z' hy hz before now =
       ap bound_said answers,
       λ e.
           let matched = matched_said r e in
-          let was = variables_matched a (front n P) Q q y y' (subst (λ (x : Bound). Binds a (front n P) Q q y x y') matched before) in
-          let is = variables_matched a (front m P') Q q' z z' (subst (λ (x : Bound). Binds a (front m P') Q q' z x z') (answers ∙ matched) now) in
+          let was = variables_matched a (front n P) Q q y y' (subst (λ (x : Result Bool Refusal). Binds a (front n P) Q q y x y') matched before) in
+          let is = variables_matched a (front m P') Q q' z z' (subst (λ (x : Result Bool Refusal). Binds a (front m P') Q q' z x z') (answers ∙ matched) now) in
           is.1 ∙ same.spans_are ∙ ap (map (λ x. pick (ltb q p) x (moved_span n m x))) (sym was.1),
     )
   where
     -- two answers, each of which tells the match
-    agree : (r s : Bound) → Told a (front n P) Q q y y' r → Told a (front m P') Q q' z z' s
-        → MatchesAt a (front m P').row Q q' ↔ MatchesAt a (front n P).row Q q → ((x : Refusal) → r ≡ BindRefused x → ⊥) → s ≡ r
-    agree Matched s f g k n = g.matched.1 (k.1 (f.matched.0 refl))
-    agree Unmatched s f g k n = g.unmatched.1 (λ x. f.unmatched.0 refl (k.0 x))
-    agree (BindRefused x) s f g k n = absurd (n x refl)
+    agree : (r s : Result Bool Refusal) → Told a (front n P) Q q y y' r → Told a (front m P') Q q' z z' s
+        → MatchesAt a (front m P').row Q q' ↔ MatchesAt a (front n P).row Q q → ((x : Refusal) → r ≡ Err x → ⊥) → s ≡ r
+    agree (Ok true) s f g k n = g.matched.1 (k.1 (f.matched.0 refl))
+    agree (Ok false) s f g k n = g.unmatched.1 (λ x. f.unmatched.0 refl (k.0 x))
+    agree (Err x) s f g k n = absurd (n x refl)
 
-    refuses : (b : Bool) (x : Refusal) → bound Fine b ≡ BindRefused x → ⊥
+    refuses : (b : Bool) (x : Refusal) → bound (Ok tt) b ≡ Err x → ⊥
     refuses true x e = let k : ◌≡◌ {A = ℕ} 0 1 = cc in omega arith
     refuses false x e = let k : ◌≡◌ {A = ℕ} 0 1 = cc in omega arith
 
-    go : (d : Check) → pattern a.arities Q ≡ d → variables_check a (front n P) Q q (length y) ≡ pattern a.arities Q
+    go : (d : Result ⊤ Refusal) → pattern a.arities Q ≡ d → variables_check a (front n P) Q q (length y) ≡ pattern a.arities Q
         → variables_check a (front m P') Q q' (length z) ≡ pattern a.arities Q → Same a P n p m P' q q' Q → s ≡ r
-    go Fine e c c' same =
+    go (Ok _) e c c' same =
         agree r s
         (binds_told a (front n P) Q q y y' r before (c ∙ e))
         (binds_told a (front m P') Q q' z z' s now (c' ∙ e))
         same.matches
-        (λ x i. refuses before.matched x (sym (before.answer ∙ ap (λ (k : Check). bound k before.matched) (c ∙ e)) ∙ i))
-    go (Refused x) e c c' same =
+        (λ x i. refuses before.matched x (sym (before.answer ∙ ap (λ (k : Result ⊤ Refusal). bound k before.matched) (c ∙ e)) ∙ i))
+    go (Err x) e c c' same =
         now.answer
-        ∙ ap (λ (k : Check). bound k now.matched) (c' ∙ e)
-        ∙ sym (before.answer ∙ ap (λ (k : Check). bound k before.matched) (c ∙ e))
+        ∙ ap (λ (k : Result ⊤ Refusal). bound k now.matched) (c' ∙ e)
+        ∙ sym (before.answer ∙ ap (λ (k : Result ⊤ Refusal). bound k before.matched) (c ∙ e))
 
 pub find_stays : FindStays
 find_stays a P n p m P' q q' b Q y i r y' z k s z' before answered now answers =
@@ -237,7 +230,7 @@ find_stays a P n p m P' q q' b Q y i r y' z k s z' before answered now answers =
       λ h. is.1 (same.after-below, same.matches.1 (was.0 h).1),
     )
 
-plain_pattern : (a : Alphabet) (P : Programme) (q : List ℕ) (p : ℕ) → given a P (length P.row) ≡ Fine → p < length P.row
+plain_pattern : (a : Alphabet) (P : Programme) (q : List ℕ) (p : ℕ) → given a P (length P.row) ≡ Ok tt → p < length P.row
     → plain_check a P.row q p ≡ pattern a.arities q
 unfolding position
 plain_pattern a P q p g h =
@@ -252,11 +245,11 @@ plain_stays a P n p m P' q q' b Q r s before now =
     let c' = plain_pattern a (front m P') Q q' same.after_fine same.after-below in
     ap fits_said (plain_settled a (front m P').row Q q' s r now (go r before (c' ∙ sym c) same.matches))
   where
-    go : (r : Fits) → PlainSays a (front n P).row Q q r → plain_check a (front m P').row Q q' ≡ plain_check a (front n P).row Q q
+    go : (r : Result Bool Refusal) → PlainSays a (front n P).row Q q r → plain_check a (front m P').row Q q' ≡ plain_check a (front n P).row Q q
         → MatchesAt a (front m P').row Q q' ↔ MatchesAt a (front n P).row Q q → PlainSays a (front m P').row Q q' r
-    go Yes h c k = (c ∙ h.0, k.1 h.1)
-    go No h c k = (c ∙ h.0, λ x. h.1 (k.0 x))
-    go (PlainRefused x) h c k = c ∙ h
+    go (Ok true) h c k = (c ∙ h.0, k.1 h.1)
+    go (Ok false) h c k = (c ∙ h.0, λ x. h.1 (k.0 x))
+    go (Err x) h c k = c ∙ h
 
 -- ---- putting back, and two replacements
 

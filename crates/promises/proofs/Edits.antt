@@ -1,5 +1,6 @@
 -- One replacement and the subtrees beside it; runs of replacements; putting back; two replacements.
 -- Assumes nothing.
+use Rattle.std.specs.Prelude.{Result, Ok, Err}
 use Prim.Native.Nat.{ℕ, zero, suc, ◌+◌, ◌-◌, ◌<◌, ◌≤◌, max}
 use mathlib.Core.Path.{◌≡◌, refl, sym, ap, ap₂, ◌∙◌, subst}
 use mathlib.Core.List.{List, [], ◌∷◌, map}
@@ -17,7 +18,6 @@ use Rattle.rows.specs.Classes.{classes_of, classes as classesOfRow}
 use Rattle.rows.specs.Row.{allowed}
 use Rattle.rows.specs.Refusals.{replacement}
 use Rattle.rows.specs.declared.Leaves.TheVariants.{Symbols}
-use Rattle.rows.specs.declared.Check.TheVariants.{Fine}
 use Rattle.rows.proofs.Tree.{length-prefix, length-ends}
 use Rattle.rows.proofs.Parse.{prefix-parse, size-parse}
 use Rattle.rows.proofs.Accept.{ranked_parse, tree_row, whole_of_row}
@@ -35,17 +35,16 @@ use Rattle.edits.proofs.Positions.{at_left, at_behind, put_back, put_swap}
 use Rattle.checks.specs.Checks.{replace_check}
 use Rattle.checks.proofs.Replacing.{given_held, replace_held, replace_able, able_sizes, replacement_accepted, replace_goes}
 use Rattle.sparrowhem.specs.Edit.{new_tree, Replacement}
-use Rattle.sparrowhem.specs.declared.edit.Replaced.{Replaced}
-use Rattle.sparrowhem.specs.declared.edit.Replaced.TheVariants.{Done, Refused}
 use Rattle.promises.specs.Runs.{State, Call, Run, edit, edits, length_after}
 use Rattle.promises.specs.Demands.{moved_span, Written}
 use Rattle.promises.proofs.Spanning.{spans_stay, map_same}
 use Rattle.promises.proofs.Holding.{Holds, Went, goes, went, stayed, row_now, table_now, classes_now, same_lengths, holds-changed, held_once}
+use Rattle.rows.specs.declared.Refusal.{Refusal}
 
 -- ---- one replacement: the tree, and the subtrees beside it
 
 pub went_written : (a : Alphabet) (P : Programme) (n : ℕ) (v : List ℕ) (p m : ℕ) (change : ℤ) (P' : Programme)
-    → Replacement a P n v p (Done m change) P' → Written a P n v p m change P'
+    → Replacement a P n v p (Ok (m, change)) P' → Written a P n v p m change P'
 went_written a P n v p m change P' o =
     let w = went a P n v p P' m change o in
     let F = new_tree a P n v p in
@@ -181,16 +180,16 @@ module _ (a : Alphabet) (P : Programme) (n : ℕ) (v : List ℕ) (p m : ℕ) (ch
 
 -- a call leads from a state that holds a tree to one that holds the edited tree
 step_holds : (a : Alphabet) (P : Programme) (n : ℕ) (f : Forest) → Holds a P n f
-    → (k : ℕ) (v : List ℕ) (p : ℕ) (r : Replaced) (P' : Programme) (n' : ℕ)
+    → (k : ℕ) (v : List ℕ) (p : ℕ) (r : Result (ℕ × ℤ) Refusal) (P' : Programme) (n' : ℕ)
     → Replacement a P k v p r P' → n' ≡ length_after n r → Holds a P' n' (edit a.arities f p v r)
-step_holds a P n f h k v p (Done m change) P' n' o e =
+step_holds a P n f h k v p (Ok (m, change)) P' n' o e =
     let A : List ℕ = a.arities in
     let w = went a P k v p P' m change o in
     let same : k ≡ n = held_once a P k n (replace_held a P k v p w.fine) h.fine in
     let now : new_tree a P k v p ≡ put f p (tree_of A v) =
     ap (λ (g : Forest). put g p (tree_of A v)) (ap (λ (j : ℕ). parse A (take j P.row)) same ∙ h.tree) in
     rw (e, ← now) (holds-changed a P k v p P' m change w)
-step_holds a P n f h k v p (Refused r) P' n' o e = rw (e, stayed a P k v p P' r o) h
+step_holds a P n f h k v p (Err r) P' n' o e = rw (e, stayed a P k v p P' r o) h
 
 pub run_holds : (a : Alphabet) (calls : List Call) (s s' : State) (f : Forest) → Holds a s.lists s.length f
     → Run a s calls s' → Holds a s'.lists s'.length (edits a.arities f calls)
@@ -204,10 +203,10 @@ run_holds a (c ∷ cs) s s' f h r =
 
 -- ---- putting back
 
-pub put_straight_back : (a : Alphabet) (P : Programme) (n : ℕ) (v : List ℕ) (p m : ℕ) (change : ℤ) (P₁ : Programme) (s : Replaced) (P₂ : Programme)
-    → Replacement a P n v p (Done m change) P₁
+pub put_straight_back : (a : Alphabet) (P : Programme) (n : ℕ) (v : List ℕ) (p m : ℕ) (change : ℤ) (P₁ : Programme) (s : Result (ℕ × ℤ) Refusal) (P₂ : Programme)
+    → Replacement a P n v p (Ok (m, change)) P₁
     → Replacement a P₁ m (prefix (single (subtree_at (parse a.arities (take n P.row)) p))) p s P₂
-    → (s ≡ Done n (pos n -ℤ pos m)) × (cut n P₂ ≡ cut n P)
+    → (s ≡ Ok (n, (pos n -ℤ pos m))) × (cut n P₂ ≡ cut n P)
 unfolding table_of classesOfRow
 put_straight_back a P n v p m change P₁ s P₂ o₁ o₂ =
     let A : List ℕ = a.arities in
@@ -227,15 +226,15 @@ put_straight_back a P n v p m change P₁ s P₂ o₁ o₂ =
     ap₂ (λ (f : Forest) (y : Tree). put f p y) h.tree (tree_row A ok old is_row) ∙ put_back (tree_of A v) G p i in
     let size_back : size (new_tree a P₁ m old p) ≡ n = ap size back ∙ at.0 in
     let long = length-prefix (single x) in
-    let whole : replacement A old ≡ Fine =
+    let whole : replacement A old ≡ (Ok tt) =
     replacement_accepted A old (omega (arith, size-single x)) (omega (arith, at_fits G p i)) (whole_of_row A ok old is_row) in
-    let fine : replace_check a P₁ m old p ≡ Fine =
+    let fine : replace_check a P₁ m old p ≡ (Ok tt) =
     replace_goes a P₁ m old p h.fine whole (omega (arith, w.length_is, put-below (tree_of A v) G p i)) (omega arith) in
     let g = goes a P₁ m old p P₂ s fine o₂ in
     let h₂ : Holds a P₂ n G = rw (size_back, back) at (holds-changed a P₁ m old p P₂ _ _ g.1) in
     let was = given_held a P n (replace_held a P n v p w.fine) in
     let lw = length-take-le n P.row able.within in (
-      g.0 ∙ ap (λ (k : ℕ). Done k (pos k -ℤ pos m)) size_back,
+      g.0 ∙ ap (λ (k : ℕ). Ok (k, (pos k -ℤ pos m))) size_back,
       same_programme (h₂.row_is ∙ prefix-parse A (take n P.row)) (h₂.table_is ∙ sym (ap (λ (k : ℕ). take k P.table) (sym lw) ∙ able.right.right))
           (h₂.classes_are ∙ sym (ap (λ (k : ℕ). take k P.classes) (sym lw) ∙ was.order.classed.right)),
     )
@@ -263,8 +262,8 @@ old_symbols a P n v p m change P' w =
 
 pub swapped : (a : Alphabet) (P : Programme) (n : ℕ) (u : List ℕ) (p : ℕ) (v : List ℕ) (q q' : ℕ) (m₁ m₁₂ m₂ m₂₁ : ℕ) (c₁ c₁₂ c₂ c₂₁ : ℤ)
     (P₁ P₁₂ P₂ P₂₁ : Programme) → get_or P.table p 0 ≤ q → q' + n ≡ q + m₁
-    → Replacement a P n u p (Done m₁ c₁) P₁ → Replacement a P₁ m₁ v q' (Done m₁₂ c₁₂) P₁₂
-    → Replacement a P n v q (Done m₂ c₂) P₂ → Replacement a P₂ m₂ u p (Done m₂₁ c₂₁) P₂₁
+    → Replacement a P n u p (Ok (m₁, c₁)) P₁ → Replacement a P₁ m₁ v q' (Ok (m₁₂, c₁₂)) P₁₂
+    → Replacement a P n v q (Ok (m₂, c₂)) P₂ → Replacement a P₂ m₂ u p (Ok (m₂₁, c₂₁)) P₂₁
     → (m₁₂ ≡ m₂₁) × (cut m₁₂ P₁₂ ≡ cut m₂₁ P₂₁)
 swapped a P n u p v q q' m₁ m₁₂ m₂ m₂₁ c₁ c₁₂ c₂ c₂₁ P₁ P₁₂ P₂ P₂₁ apart moves o₁ o₁₂ o₂ o₂₁ =
     let A : List ℕ = a.arities in

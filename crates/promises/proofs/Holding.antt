@@ -1,5 +1,6 @@
 -- Rows that are held with their tables and classes, and what a replacement makes of them.
 -- Assumes nothing.
+use Rattle.std.specs.Prelude.{Result, Ok, Err, ⊤}
 use Prim.Native.Nat.{ℕ, ◌+◌, ◌≤◌, ◌<◌}
 use mathlib.Core.Path.{◌≡◌, refl, sym, ap, ◌∙◌, subst}
 use mathlib.Core.List.{List, [], ◌++◌, append-nil}
@@ -17,12 +18,9 @@ use Rattle.rows.specs.Row.{verdict, allowed, sized}
 use Rattle.rows.specs.Buffers.{written, after}
 use Rattle.rows.specs.Refusals.{◌then◌, alphabet, sizes, symbols, differs, fresh, classed, kept, given}
 use Rattle.rows.specs.declared.Leaves.TheVariants.{Symbols}
-use Rattle.rows.specs.declared.Verdict.TheVariants.{Whole}
 use Rattle.rows.specs.declared.Kept.TheVariants.{Stale, Misclassed}
 use Rattle.rows.specs.declared.Refusal.{Refusal}
 use Rattle.rows.specs.declared.Refusal.TheVariants.{Row}
-use Rattle.rows.specs.declared.Check.{Check}
-use Rattle.rows.specs.declared.Check.TheVariants.{Fine, Refused}
 use Rattle.rows.proofs.Tree.{length-prefix, length-ends}
 use Rattle.rows.proofs.Parse.{prefix-parse, size-parse, parse-prefix}
 use Rattle.rows.proofs.Accept.{verdict_forest, count-parse, ranked_parse, row_of_whole, parse_whole}
@@ -40,9 +38,8 @@ use Rattle.checks.proofs.Building.{build_fillable}
 use Rattle.checks.proofs.Replacing.{given_held, replace_held, replace_able, replace_classes}
 use Rattle.sparrowhem.specs.Build.{Built}
 use Rattle.sparrowhem.specs.Edit.{new_tree, holding, answered, Replacement}
-use Rattle.sparrowhem.specs.declared.edit.Replaced.{Replaced}
-use Rattle.sparrowhem.specs.declared.edit.Replaced.TheVariants.{Done, Refused as Unreplaced}
 use Rattle.promises.proofs.Calls.{build_fine}
+use Rattle.promises.proofs.Said.{ok_pair}
 
 -- ---- held rows
 
@@ -53,19 +50,19 @@ pub record Holds (a : Alphabet) (P : Programme) (n : ℕ) (f : Forest) : Type 0 
   pub row_is : take n P.row ≡ prefix f
   pub table_is : take n P.table ≡ ends 0 f
   pub classes_are : take n P.classes ≡ classes_of f
-  pub fine : given a P n ≡ Fine
+  pub fine : given a P n ≡ Ok tt
 
-alphabet_fine : (a : Alphabet) (P : Programme) (n : ℕ) → given a P n ≡ Fine → alphabet a ≡ Fine
+alphabet_fine : (a : Alphabet) (P : Programme) (n : ℕ) → given a P n ≡ Ok tt → alphabet a ≡ Ok tt
 unfolding given
 alphabet_fine a P n e = (both_fine (alphabet a) (kept Row a P n) e).0
 
 -- a list whose first n places are another does not differ from it
-pub begins : (wrong : ℕ → Refusal) (n : ℕ) (l t : List ℕ) → take n t ≡ l → differs wrong 0 l t ≡ Fine
+pub begins : (wrong : ℕ → Refusal) (n : ℕ) (l t : List ℕ) → take n t ≡ l → differs wrong 0 l t ≡ Ok tt
 begins wrong n l t e =
     ap (differs wrong 0 l) (sym (take-append-drop n t) ∙ ap (λ (x : List ℕ). x ++ drop n t) e) ∙ differs_same wrong 0 l (drop n t)
 
 -- a ranked forest of one tree, at the front of the row's buffer, with its table and its classes
-pub held_forest : (a : Alphabet) (P : Programme) (n : ℕ) (f : Forest) → alphabet a ≡ Fine → n ≤ row_most → n ≤ room P → 0 < n
+pub held_forest : (a : Alphabet) (P : Programme) (n : ℕ) (f : Forest) → alphabet a ≡ Ok tt → n ≤ row_most → n ≤ room P → 0 < n
     → Ranked a.arities (allowed Symbols a.arities) f → count f ≡ 1 → take n P.row ≡ prefix f → take n P.table ≡ ends 0 f → take n P.classes ≡ classes_of f → Holds a P n f
 unfolding given kept sizes sized symbols fresh classed table classes count
 held_forest a P n f alpha most fits some ranked one reads tabled named =
@@ -74,13 +71,13 @@ held_forest a P n f alpha most fits some ranked one reads tabled named =
     let w : List ℕ = take n P.row in
     let t : List ℕ = P.table in
     let tree : parse A w ≡ f = ap (parse A) reads ∙ parse-prefix A ok f ranked in
-    let whole : verdict A ok 1 0 w ≡ Whole =
+    let whole : verdict A ok 1 0 w ≡ (Ok tt) =
     ap (verdict A ok 1 0) (reads ∙ sym (append-nil (prefix f)))
     ∙ ap (λ (k : ℕ). verdict A ok k 0 (prefix f ++ [])) (omega arith)
     ∙ verdict_forest A ok f 0 0 [] ranked
     ∙ verdict_whole A ok (0 + size f) in
-    let right : differs (λ k. Row (Stale k)) 0 (ends 0 (parse A w)) t ≡ Fine = begins (λ k. Row (Stale k)) n (ends 0 (parse A w)) t (tabled ∙ ap (ends 0) (sym tree)) in
-    let classed-right : differs (λ k. Row (Misclassed k)) 0 (classes_of (parse A w)) P.classes ≡ Fine =
+    let right : differs (λ k. Row (Stale k)) 0 (ends 0 (parse A w)) t ≡ (Ok tt) = begins (λ k. Row (Stale k)) n (ends 0 (parse A w)) t (tabled ∙ ap (ends 0) (sym tree)) in
+    let classed-right : differs (λ k. Row (Misclassed k)) 0 (classes_of (parse A w)) P.classes ≡ (Ok tt) =
     begins (λ k. Row (Misclassed k)) n (classes_of (parse A w)) P.classes (named ∙ ap classes_of (sym tree)) in
     record {
       tree = tree;
@@ -91,7 +88,7 @@ held_forest a P n f alpha most fits some ranked one reads tabled named =
     }
 
 -- an accepted row with its built table and classes is held
-pub built-holds : (a : Alphabet) (T P : Programme) (n : ℕ) → Built a T Fine (front n P) → length T.row ≡ n
+pub built-holds : (a : Alphabet) (T P : Programme) (n : ℕ) → Built a T (Ok tt) (front n P) → length T.row ≡ n
     → Holds a P n (parse a.arities T.row)
 unfolding build_check table classes
 built-holds a T P n b long =
@@ -123,7 +120,7 @@ built-holds a T P n b long =
     (ap (take n) classes_now ∙ ap (λ (k : ℕ). take k (written T.classes 0 (classes A w))) (sym (lc ∙ long)) ∙ written-front T.classes (classes A w))
 
 -- so a held row has one length only
-pub held_once : (a : Alphabet) (P : Programme) (n k : ℕ) → given a P n ≡ Fine → given a P k ≡ Fine → n ≡ k
+pub held_once : (a : Alphabet) (P : Programme) (n k : ℕ) → given a P n ≡ Ok tt → given a P k ≡ Ok tt → n ≡ k
 held_once a P n k e d =
     let A : List ℕ = a.arities in
     let ok = allowed Symbols A in
@@ -139,7 +136,7 @@ held_once a P n k e d =
 
 -- what an answer that is no refusal tells
 pub record Went (a : Alphabet) (P : Programme) (n : ℕ) (v : List ℕ) (p m : ℕ) (change : ℤ) (P' : Programme) : Type 0 where
-  pub fine : replace_check a P n v p ≡ Fine
+  pub fine : replace_check a P n v p ≡ Ok tt
   pub length_is : m ≡ size (new_tree a P n v p)
   pub change_is : change ≡ pos m -ℤ pos n
   pub lists : P' ≡ holding P n (new_tree a P n v p)
@@ -149,20 +146,20 @@ module _ (a : Alphabet) (P : Programme) (n : ℕ) (v : List ℕ) (p : ℕ) (P' :
   F = new_tree a P n v p
 
   -- where nothing is refused, the answer is the new length and the change
-  pub goes : (r : Replaced) → replace_check a P n v p ≡ Fine → Replacement a P n v p r P'
-      → (r ≡ Done (size F) (pos (size F) -ℤ pos n)) × Went a P n v p (size F) (pos (size F) -ℤ pos n) P'
+  pub goes : (r : Result (ℕ × ℤ) Refusal) → replace_check a P n v p ≡ Ok tt → Replacement a P n v p r P'
+      → (r ≡ Ok ((size F), (pos (size F) -ℤ pos n))) × Went a P n v p (size F) (pos (size F) -ℤ pos n) P'
   goes r e o = (
-    o.answer ∙ ap (λ (c : Check). answered c (size F) n) e,
-    record { fine = e; length_is = refl; change_is = refl; lists = o.lists ∙ ap (λ (c : Check). after c (holding P n F) P) e },
+    o.answer ∙ ap (λ (c : Result ⊤ Refusal). answered c (size F) n) e,
+    record { fine = e; length_is = refl; change_is = refl; lists = o.lists ∙ ap (λ (c : Result ⊤ Refusal). after c (holding P n F) P) e },
   )
 
-  pub went : (m : ℕ) (change : ℤ) → Replacement a P n v p (Done m change) P' → Went a P n v p m change P'
+  pub went : (m : ℕ) (change : ℤ) → Replacement a P n v p (Ok (m, change)) P' → Went a P n v p m change P'
   went m change o =
       let fine = go (replace_check a P n v p) refl o.answer in
-      let g = goes (Done m change) fine o in
-      let same : Done m change ≡ Done (size F) (pos (size F) -ℤ pos n) = g.0 in
-      let long : m ≡ size F = cc in
-      let by : change ≡ pos (size F) -ℤ pos n = cc in
+      let g = goes (Ok (m, change)) fine o in
+      let same = ok_pair g.0 in
+      let long : m ≡ size F = same.0 in
+      let by : change ≡ pos (size F) -ℤ pos n = same.1 in
       record {
         fine = fine;
         length_is = long;
@@ -170,16 +167,16 @@ module _ (a : Alphabet) (P : Programme) (n : ℕ) (v : List ℕ) (p : ℕ) (P' :
         lists = g.1.lists;
       }
     where
-      go : (c : Check) → replace_check a P n v p ≡ c → Done m change ≡ answered c (size F) n → replace_check a P n v p ≡ Fine
-      go Fine e is = e
-      go (Refused r) e is = let z : ◌≡◌ {A = ℕ} 0 1 = cc in absurd (omega arith)
+      go : (c : Result ⊤ Refusal) → replace_check a P n v p ≡ c → Ok (m, change) ≡ answered c (size F) n → replace_check a P n v p ≡ Ok tt
+      go (Ok _) e is = e
+      go (Err r) e is = let z : ◌≡◌ {A = ℕ} 0 1 = cc in absurd (omega arith)
 
-  pub stayed : (r : Refusal) → Replacement a P n v p (Unreplaced r) P' → P' ≡ P
+  pub stayed : (r : Refusal) → Replacement a P n v p (Err r) P' → P' ≡ P
   stayed r o = go (replace_check a P n v p) refl o.answer
     where
-      go : (c : Check) → replace_check a P n v p ≡ c → Unreplaced r ≡ answered c (size F) n → P' ≡ P
-      go Fine e is = let z : ◌≡◌ {A = ℕ} 0 1 = cc in absurd (omega arith)
-      go (Refused q) e is = o.lists ∙ ap (λ (c : Check). after c (holding P n F) P) e
+      go : (c : Result ⊤ Refusal) → replace_check a P n v p ≡ c → Err r ≡ answered c (size F) n → P' ≡ P
+      go (Ok _) e is = let z : ◌≡◌ {A = ℕ} 0 1 = cc in absurd (omega arith)
+      go (Err q) e is = o.lists ∙ ap (λ (c : Result ⊤ Refusal). after c (holding P n F) P) e
 
   module _ (m : ℕ) (change : ℤ) (w : Went a P n v p m change P') where
     abbrev A : List ℕ

@@ -1,5 +1,6 @@
 -- What specs/Demands says of a sheet, each sentence with its proof.
 -- Assumes nothing.
+use Rattle.std.specs.Prelude.{Result, Ok, Err, ⊤}
 use Prim.Native.Nat.{ℕ, zero, suc, ◌+◌, ◌*◌, ◌≤◌, ◌<◌}
 use mathlib.Core.Path.{◌≡◌, refl, sym, ap, ap₂, ◌∙◌}
 use mathlib.Core.List.{List, [], ◌∷◌, ◌++◌, append_assoc, append-nil}
@@ -17,8 +18,6 @@ use Rattle.rows.specs.Buffers.{written, after}
 use Rattle.rows.specs.Refusals.{◌then◌, given, pattern, sheet, output}
 use Rattle.rows.specs.declared.Refusal.{Refusal}
 use Rattle.rows.specs.declared.Refusal.TheVariants.{OutputShort}
-use Rattle.rows.specs.declared.Check.{Check}
-use Rattle.rows.specs.declared.Check.TheVariants.{Fine, Refused}
 use Rattle.rows.proofs.Buffers.{written-front, written_behind}
 use Rattle.rows.proofs.Passing.{both_fine, below}
 use Rattle.rows.proofs.Sheet.{laid-length}
@@ -31,13 +30,9 @@ use Rattle.sheets.proofs.Sheets.{alone-refused, results_length}
 use Rattle.sparrowhem.specs.Said.{Said.refused, Said.gives, found_said, sheet_said}
 use Rattle.sparrowhem.specs.Search.{found, Finds}
 use Rattle.sparrowhem.specs.Sheet.{sheet_found, all_positions, all_results, check_of, SheetAnswers}
-use Rattle.sparrowhem.specs.declared.search.Found.{Found}
-use Rattle.sparrowhem.specs.declared.search.Found.TheVariants.{Matches, Refused as FoundRefused}
-use Rattle.sparrowhem.specs.declared.search.SheetFound.{SheetFound}
-use Rattle.sparrowhem.specs.declared.search.SheetFound.TheVariants.{Matches as SheetMatches}
 use Rattle.sparrowhem.proofs.Sheeting.{every, threes, computed, sheet-given, sheet_answers, sheet_computed}
 use Rattle.promises.specs.Demands.{SheetOne, SheetOrder, SheetRefused, SheetStale, refusal_at, count_at, positions_begin, AsAlone, SheetAlone, Settled, SheetSettled}
-use Rattle.promises.proofs.Said.{sheet-said, sheet_matches_said}
+use Rattle.promises.proofs.Said.{ok_pair, sheet-said, sheet_matches_said}
 use Rattle.promises.proofs.Calls.{find_computed}
 use Rattle.promises.proofs.Demand1.{through_answer, on_refuses, wrong_given}
 
@@ -45,10 +40,10 @@ use Rattle.promises.proofs.Demand1.{through_answer, on_refuses, wrong_given}
 
 unfoldable pub sheet_one : SheetOne
 sheet_one a P qs ls y z =
-    let c : Check = computed a P qs ls y z in
+    let c : (Result ⊤ Refusal) = computed a P qs ls y z in
     let ps : List ℕ = every a P qs ls y z in
     let rs : List ℕ = threes a P qs ls y z in
-    let some : SheetFound × List ℕ × List ℕ = (sheet_found c (length ls) (length ps), after c (written y 0 ps) y, after c (written z 0 rs) z) in
+    let some : (Result (ℕ × ℕ) Refusal) × List ℕ × List ℕ = (sheet_found c (length ls) (length ps), after c (written y 0 ps) y, after c (written z 0 rs) z) in
     record {
       some = some;
       holds = sheet_answers a P qs ls y z some.0 some.1 some.2 refl refl refl;
@@ -64,16 +59,16 @@ sheet_order a P qs ls y z r y' z' s k x =
 pub sheet_refused : SheetRefused
 sheet_refused a P qs ls y z r y' z' s k x e = go (check_of a P qs ls y z s.positions) ((sheet_order a P qs ls y z r y' z' s k x).0 e) s.output s.results
   where
-    go : (c : Check) → Refuses c k x → y' ≡ after c (written y 0 (all_positions ls s.positions)) y
+    go : (c : Result ⊤ Refusal) → Refuses c k x → y' ≡ after c (written y 0 (all_positions ls s.positions)) y
         → z' ≡ after c (written z 0 (all_results a qs ls s.positions)) z → (y' ≡ y) × (z' ≡ z)
-    go Fine h p t = absurd h
-    go (Refused x) h p t = (p, t)
+    go (Ok _) h p t = absurd h
+    go (Err x) h p t = (p, t)
 
 pub sheet_stale : SheetStale
 unfolding sheet_check results_check
 sheet_stale a P qs ls y z r y' z' k p s w =
-    let g : Check = given a P (length P.row) in
-    let o : Check = sheet ls (length qs) then output (result_places * length ls) (length z) in
+    let g : (Result ⊤ Refusal) = given a P (length P.row) in
+    let o : (Result ⊤ Refusal) = sheet ls (length qs) then output (result_places * length ls) (length z) in
     (sheet_order a P qs ls y z r y' z' s k p).1
     (on_refuses (g then o) (output (length (all_positions ls s.positions)) (length y)) k p (on_refuses g o k p (wrong_given a P (length P.row) k p w)))
 
@@ -119,25 +114,25 @@ module _ (b : List ℕ) (l : ℕ → List ℕ) (n i : ℕ) (h : i < n) where
 
 -- nothing is refused
 record Told (a : Alphabet) (P : Programme) (qs ls y z : List ℕ) (n m : ℕ) (y' z' : List ℕ) : Type 0 where
-  given_fine : given a P (length P.row) ≡ Fine
+  given_fine : given a P (length P.row) ≡ Ok tt
   patterns : n ≡ length ls
   many : m ≡ length (every a P qs ls y z)
   wrote : y' ≡ written y 0 (every a P qs ls y z)
   results : z' ≡ written z 0 (threes a P qs ls y z)
 
-told : (a : Alphabet) (P : Programme) (qs ls y z : List ℕ) (r : SheetFound) (y' z' : List ℕ) → SheetAnswers a P qs ls y z r y' z'
+told : (a : Alphabet) (P : Programme) (qs ls y z : List ℕ) (r : Result (ℕ × ℕ) Refusal) (y' z' : List ℕ) → SheetAnswers a P qs ls y z r y' z'
     → (n m : ℕ) → sheet_said r ≡ gives (pos n ∷ pos m ∷ []) → Told a P qs ls y z n m y' z'
 unfolding sheet_check
 told a P qs ls y z r y' z' s n m e =
     let c = sheet_computed a P qs ls y z r y' z' s in
     go (computed a P qs ls y z) refl (sym (sheet_matches_said r n m e) ∙ c.0) c.1 c.2
   where
-    go : (c : Check) → computed a P qs ls y z ≡ c → SheetMatches n m ≡ sheet_found c (length ls) (length (every a P qs ls y z))
+    go : (c : Result ⊤ Refusal) → computed a P qs ls y z ≡ c → Ok (n, m) ≡ sheet_found c (length ls) (length (every a P qs ls y z))
         → y' ≡ after c (written y 0 (every a P qs ls y z)) y → z' ≡ after c (written z 0 (threes a P qs ls y z)) z → Told a P qs ls y z n m y' z'
-    go (Refused x) f is p t = let z : ◌≡◌ {A = ℕ} 0 1 = cc in absurd (omega arith)
-    go Fine f is p t =
+    go (Err x) f is p t = let z : ◌≡◌ {A = ℕ} 0 1 = cc in absurd (omega arith)
+    go (Ok _) f is p t =
         let both = both_fine (results_check a P qs ls (length z)) (output (length (every a P qs ls y z)) (length y)) f in
-        record { given_fine = sheet-given a P qs ls y z both.0; patterns = cc; many = cc; wrote = p; results = t }
+        record { given_fine = sheet-given a P qs ls y z both.0; patterns = (ok_pair is).0; many = (ok_pair is).1; wrote = p; results = t }
 
 module _ (a : Alphabet) (P : Programme) (qs ls y z : List ℕ) (n m : ℕ) (y' z' : List ℕ) (t : Told a P qs ls y z n m y' z') where
   -- pattern i, its positions and its result
@@ -158,18 +153,18 @@ module _ (a : Alphabet) (P : Programme) (qs ls y z : List ℕ) (n m : ℕ) (y' z
       ∙ number_read z rs (length ls) i (omega (arith, t.patterns)) (result_places * i) k (results_length a P.row qs ls i) (omega arith)
 
   -- its three numbers, by what its check says
-  three : (i : ℕ) → i < n → (c : Check) → pattern a.arities (here i) ≡ c → (k : ℕ) → k < result_places
+  three : (i : ℕ) → i < n → (c : Result ⊤ Refusal) → pattern a.arities (here i) ≡ c → (k : ℕ) → k < result_places
       → get_or z' (result_places * i + k) 0 ≡ get_or (result_of c (length (ps i))) k 0
   unfolding result
-  three i h c e k b = result_read i h k b ∙ ap (λ (c : Check). get_or (result_of c (length (ps i))) k 0) e
+  three i h c e k b = result_read i h k b ∙ ap (λ (c : Result ⊤ Refusal). get_or (result_of c (length (ps i))) k 0) e
 
   -- the third counts its positions
   count_read : (i : ℕ) → i < n → count_at z' i ≡ length (ps i)
   count_read i h = go (pattern a.arities (here i)) refl
     where
-      go : (c : Check) → pattern a.arities (here i) ≡ c → count_at z' i ≡ length (ps i)
-      go Fine e = three i h Fine e 2 (omega arith)
-      go (Refused x) e = three i h (Refused x) e 2 (omega arith) ∙ sym (ap length (alone-refused a P t.given_fine (here i) x e))
+      go : (c : Result ⊤ Refusal) → pattern a.arities (here i) ≡ c → count_at z' i ≡ length (ps i)
+      go (Ok _) e = three i h (Ok tt) e 2 (omega arith)
+      go (Err x) e = three i h (Err x) e 2 (omega arith) ∙ sym (ap length (alone-refused a P t.given_fine (here i) x e))
 
   begin_read : (i : ℕ) → i ≤ n → positions_begin z' i ≡ length (laid ps i)
   unfolding positions_begin laid
@@ -187,54 +182,54 @@ module _ (a : Alphabet) (P : Programme) (qs ls y z : List ℕ) (n m : ℕ) (y' z
       }
 
   -- pattern i, and find with it
-  module _ (i : ℕ) (h : i < n) (x : List ℕ) (f : Found) (x' : List ℕ) (is : Finds a P (here i) x f x') (room : (k : ℕ) → found_said f ≡ refused 19 k → ⊥) where
+  module _ (i : ℕ) (h : i < n) (x : List ℕ) (f : Result ℕ Refusal) (x' : List ℕ) (is : Finds a P (here i) x f x') (room : (k : ℕ) → found_said f ≡ refused 19 k → ⊥) where
     abbrev all : List ℕ
     all = list_of a P.row (here i)
 
     -- by the pattern's check, since nothing before it refuses
-    found_by : (c : Check) → pattern a.arities (here i) ≡ c
+    found_by : (c : Result ⊤ Refusal) → pattern a.arities (here i) ≡ c
         → (f ≡ found (c then output (length all) (length x)) (length all)) × (x' ≡ after (c then output (length all) (length x)) (written x 0 all) x)
     unfolding find_check search_check
     found_by c e =
         let k = find_computed a P (here i) x f x' is in
         let check : find_check a P (here i) (length all) (length x) ≡ c then output (length all) (length x) =
-        ap₂ (λ (g c : Check). (g then c) then output (length all) (length x)) t.given_fine e in
-        (k.0 ∙ ap (λ (c : Check). found c (length all)) check, k.1 ∙ ap (λ (c : Check). after c (written x 0 all) x) check)
+        ap₂ (λ (g c : Result ⊤ Refusal). (g then c) then output (length all) (length x)) t.given_fine e in
+        (k.0 ∙ ap (λ (c : Result ⊤ Refusal). found c (length all)) check, k.1 ∙ ap (λ (c : Result ⊤ Refusal). after c (written x 0 all) x) check)
 
     -- the first of its three numbers
-    refusal_is : (c : Check) → pattern a.arities (here i) ≡ c → refusal_at z' i ≡ get_or (result_of c (length (ps i))) 0 0
+    refusal_is : (c : Result ⊤ Refusal) → pattern a.arities (here i) ≡ c → refusal_at z' i ≡ get_or (result_of c (length (ps i))) 0 0
     refusal_is c e = ap (λ (k : ℕ). get_or z' k 0) (sym (add-zero (result_places * i))) ∙ three i h c e 0 (omega arith)
 
-    as_refused : (r : Refusal) → pattern a.arities (here i) ≡ Refused r → AsAlone f x' y' z' i
+    as_refused : (r : Refusal) → pattern a.arities (here i) ≡ Err r → AsAlone f x' y' z' i
     as_refused r e =
-        let none : count_at z' i ≡ 0 = three i h (Refused r) e 2 (omega arith) in
+        let none : count_at z' i ≡ 0 = three i h (Err r) e 2 (omega arith) in
         record {
-          said = inr (ap found_said (found_by (Refused r) e).0 ∙ ap₂ refused (sym (refusal_is (Refused r) e)) (sym (three i h (Refused r) e 1 (omega arith))), none);
+          said = inr (ap found_said (found_by (Err r) e).0 ∙ ap₂ refused (sym (refusal_is (Err r) e)) (sym (three i h (Err r) e 1 (omega arith))), none);
           stretch = ap (λ (k : ℕ). take k (drop (positions_begin z' i) y')) none ∙ ap (λ (k : ℕ). take k x') (sym none);
         }
 
-    as_found : pattern a.arities (here i) ≡ Fine → AsAlone f x' y' z' i
+    as_found : pattern a.arities (here i) ≡ Ok tt → AsAlone f x' y' z' i
     unfolding alone output
     as_found e = below (length x) (length all) short fits
       where
         same : ps i ≡ all
-        same = ap (λ (c : Check). after c all []) e
+        same = ap (λ (c : Result ⊤ Refusal). after c all []) e
 
         many : count_at z' i ≡ length all
         many = count_read i h ∙ ap length same
 
         short : length x < length all → AsAlone f x' y' z' i
         short b =
-            let none : f ≡ FoundRefused (OutputShort (length all)) = (found_by Fine e).0 ∙ rw (lt-ltb (length x) (length all) b) refl in
+            let none : f ≡ Err (OutputShort (length all)) = (found_by (Ok tt) e).0 ∙ rw (lt-ltb (length x) (length all) b) refl in
             absurd (room (length all) (ap found_said none))
 
         fits : length all ≤ length x → AsAlone f x' y' z' i
         fits b =
-            let fine : output (length all) (length x) ≡ Fine = rw (le-ltb (length x) (length all) b) refl in
-            let answer : f ≡ Matches (length all) = (found_by Fine e).0 ∙ ap (λ (c : Check). found c (length all)) fine in
-            let wrote : x' ≡ written x 0 all = (found_by Fine e).1 ∙ ap (λ (c : Check). after c (written x 0 all) x) fine in
+            let fine : output (length all) (length x) ≡ (Ok tt) = rw (le-ltb (length x) (length all) b) refl in
+            let answer : f ≡ Ok (length all) = (found_by (Ok tt) e).0 ∙ ap (λ (c : Result ⊤ Refusal). found c (length all)) fine in
+            let wrote : x' ≡ written x 0 all = (found_by (Ok tt) e).1 ∙ ap (λ (c : Result ⊤ Refusal). after c (written x 0 all) x) fine in
             record {
-              said = inl (ap found_said answer ∙ ap (λ (k : ℕ). gives (pos k ∷ [])) (sym many), refusal_is Fine e, three i h Fine e 1 (omega arith));
+              said = inl (ap found_said answer ∙ ap (λ (k : ℕ). gives (pos k ∷ [])) (sym many), refusal_is (Ok tt) e, three i h (Ok tt) e 1 (omega arith));
               stretch =
                   ap₂ (λ (k : ℕ) (w : List ℕ). take k (drop (positions_begin z' i) w)) (count_read i h) t.wrote
                   ∙ stretch_read y ps (length ls) i (omega (arith, t.patterns)) (positions_begin z' i) (sym (begin_read i (omega arith)))
@@ -245,9 +240,9 @@ module _ (a : Alphabet) (P : Programme) (qs ls y z : List ℕ) (n m : ℕ) (y' z
     alike : AsAlone f x' y' z' i
     alike = go (pattern a.arities (here i)) refl
       where
-        go : (c : Check) → pattern a.arities (here i) ≡ c → AsAlone f x' y' z' i
-        go Fine e = as_found e
-        go (Refused r) e = as_refused r e
+        go : (c : Result ⊤ Refusal) → pattern a.arities (here i) ≡ c → AsAlone f x' y' z' i
+        go (Ok _) e = as_found e
+        go (Err r) e = as_refused r e
 
 pub sheet_alone : SheetAlone
 sheet_alone a P qs ls y z r y' z' s n m e i h x f x' is room = alike a P qs ls y z n m y' z' (told a P qs ls y z r y' z' s n m e) i h x f x' is room

@@ -2,47 +2,41 @@
 -- `WritesBars` (crates/bars/specs/Calls.antt); this file says what they come to.
 -- A are arities, v is a list in bar notation, w a row, b a lent list, n a count, r an answer, x a refusal. ' marks what a list holds
 -- afterwards.
-use Rattle.std.specs.Prelude.{ℕ, ◌*◌, ◌≤◌, ◌≡◌, List, ◌↔◌, length, take, drop}
+use Rattle.std.specs.Prelude.{ℕ, ◌*◌, ◌≤◌, ◌≡◌, List, ◌↔◌, length, take, drop, Result, Ok, Err, ⊤}
 use Rattle.rows.specs.Programme.{Programme, alphabet_of, programme}
 use Rattle.rows.specs.Tree.{single, prefix, IsRow}
 use Rattle.rows.specs.Row.{symbol}
 use Rattle.rows.specs.Refusals.{alphabet}
 use Rattle.rows.specs.Buffers.{One}
 use Rattle.rows.specs.declared.Refusal.{Refusal}
-use Rattle.rows.specs.declared.Check.{Check}
-use Rattle.rows.specs.declared.Check.TheVariants.{Fine, Refused}
 use Rattle.bars.specs.Bars.{bar_form, IsBars, read_check, write_check}
 use Rattle.bars.specs.Calls.{ReadsBars, WritesBars}
 use Rattle.bars.specs.Promises.{AcceptsBars, StopsFirst, OneDue, NothingIsOpen, WrongChildren, StrayChild, EndsOpen, RowOfBars, BarsOfRow, TwiceAsLong, OneForm, WriteRead, ReadWrite, WriteThenRead, ReadThenWrite}
-use Rattle.bars.specs.declared.BarsRead.{BarsRead}
-use Rattle.bars.specs.declared.BarsRead.TheVariants.{Symbols, Refused as Unread}
-use Rattle.bars.specs.declared.BarsWritten.{BarsWritten}
-use Rattle.bars.specs.declared.BarsWritten.TheVariants.{Numbers, Refused as Unwritten}
 use Rattle.sparrowhem.specs.Build.{Built}
 
 -- Every list gets an answer from either call: there is one outcome that the contract admits, and no other. An outcome is the answer and
 -- what the lent list holds afterwards.
 abbrev pub BarsReadOne : Type 0
-BarsReadOne = (A v w : List ℕ) → One {X = BarsRead × List ℕ} (λ x. ReadsBars A v w x.0 x.1)
+BarsReadOne = (A v w : List ℕ) → One {X = (Result ℕ Refusal) × List ℕ} (λ x. ReadsBars A v w x.0 x.1)
 
 abbrev pub BarsWriteOne : Type 0
-BarsWriteOne = (A w b : List ℕ) → One {X = BarsWritten × List ℕ} (λ x. WritesBars A w b x.0 x.1)
+BarsWriteOne = (A w b : List ℕ) → One {X = (Result ℕ Refusal) × List ℕ} (λ x. WritesBars A w b x.0 x.1)
 
 -- A call refuses exactly if its check does, with the refusal of that: the first in its order.
 abbrev pub BarsReadOrder : Type 0
-BarsReadOrder = (A v w : List ℕ) (r : BarsRead) (w' : List ℕ) (x : Refusal) → ReadsBars A v w r w'
-    → (r ≡ Unread x) ↔ (read_check A v (length w) ≡ Refused x)
+BarsReadOrder = (A v w : List ℕ) (r : Result ℕ Refusal) (w' : List ℕ) (x : Refusal) → ReadsBars A v w r w'
+    → (r ≡ Err x) ↔ (read_check A v (length w) ≡ Err x)
 
 abbrev pub BarsWriteOrder : Type 0
-BarsWriteOrder = (A w b : List ℕ) (r : BarsWritten) (b' : List ℕ) (x : Refusal) → WritesBars A w b r b'
-    → (r ≡ Unwritten x) ↔ (write_check A w (length b) ≡ Refused x)
+BarsWriteOrder = (A w b : List ℕ) (r : Result ℕ Refusal) (b' : List ℕ) (x : Refusal) → WritesBars A w b r b'
+    → (r ≡ Err x) ↔ (write_check A w (length b) ≡ Err x)
 
 -- A refusal writes nothing.
 abbrev pub BarsReadRefused : Type 0
-BarsReadRefused = (A v w : List ℕ) (x : Refusal) (w' : List ℕ) → ReadsBars A v w (Unread x) w' → w' ≡ w
+BarsReadRefused = (A v w : List ℕ) (x : Refusal) (w' : List ℕ) → ReadsBars A v w (Err x) w' → w' ≡ w
 
 abbrev pub BarsWriteRefused : Type 0
-BarsWriteRefused = (A w b : List ℕ) (x : Refusal) (b' : List ℕ) → WritesBars A w b (Unwritten x) b' → b' ≡ b
+BarsWriteRefused = (A w b : List ℕ) (x : Refusal) (b' : List ℕ) → WritesBars A w b (Err x) b' → b' ≡ b
 
 -- What is read is the bar form of a ranked tree, the first n places then hold the tree's row, which is half as long, and later ones stay.
 pub record ReadRow (A v w : List ℕ) (n : ℕ) (w' : List ℕ) : Type 0 where
@@ -52,12 +46,12 @@ pub record ReadRow (A v w : List ℕ) (n : ℕ) (w' : List ℕ) : Type 0 where
   pub later : drop n w' ≡ drop n w
 
 abbrev pub BarsReadAnswers : Type 0
-BarsReadAnswers = (A v w : List ℕ) (n : ℕ) (w' : List ℕ) → ReadsBars A v w (Symbols n) w' → ReadRow A v w n w'
+BarsReadAnswers = (A v w : List ℕ) (n : ℕ) (w' : List ℕ) → ReadsBars A v w (Ok n) w' → ReadRow A v w n w'
 
 -- And the bar form of each ranked tree is read, within the sizes and where the row has room.
 abbrev pub BarsReadAccepts : Type 0
-BarsReadAccepts = (A v w : List ℕ) (r : BarsRead) (w' : List ℕ) → alphabet (alphabet_of A) ≡ Fine → (t : IsBars A v) → length v ≤ 32768
-    → length (prefix (single t.tree)) ≤ length w → ReadsBars A v w r w' → r ≡ Symbols (length (prefix (single t.tree)))
+BarsReadAccepts = (A v w : List ℕ) (r : Result ℕ Refusal) (w' : List ℕ) → alphabet (alphabet_of A) ≡ Ok tt → (t : IsBars A v) → length v ≤ 32768
+    → length (prefix (single t.tree)) ≤ length w → ReadsBars A v w r w' → r ≡ Ok (length (prefix (single t.tree)))
 
 -- What is written is the bar form of the row's tree, twice as long as the row, and later places stay.
 pub record WrittenBars (A w b : List ℕ) (n : ℕ) (b' : List ℕ) : Type 0 where
@@ -67,12 +61,12 @@ pub record WrittenBars (A w b : List ℕ) (n : ℕ) (b' : List ℕ) : Type 0 whe
   pub later : drop n b' ≡ drop n b
 
 abbrev pub BarsWriteAnswers : Type 0
-BarsWriteAnswers = (A w b : List ℕ) (n : ℕ) (b' : List ℕ) → WritesBars A w b (Numbers n) b' → WrittenBars A w b n b'
+BarsWriteAnswers = (A w b : List ℕ) (n : ℕ) (b' : List ℕ) → WritesBars A w b (Ok n) b' → WrittenBars A w b n b'
 
 -- The row that was read can be built at once: no build refuses it that has room for its table and its classes.
 abbrev pub BuildsRead : Type 0
-BuildsRead = (A v w : List ℕ) (n : ℕ) (w' : List ℕ) → ReadsBars A v w (Symbols n) w'
-    → (t c : List ℕ) (r : Check) (P' : Programme) → n ≤ length t → n ≤ length c → Built (alphabet_of A) (programme (take n w') t c) r P' → r ≡ Fine
+BuildsRead = (A v w : List ℕ) (n : ℕ) (w' : List ℕ) → ReadsBars A v w (Ok n) w'
+    → (t c : List ℕ) (r : Result ⊤ Refusal) (P' : Programme) → n ≤ length t → n ≤ length c → Built (alphabet_of A) (programme (take n w') t c) r P' → r ≡ Ok tt
 
 -- All of them, with those on lists alone and on one call behind the other (crates/bars/specs/Promises.antt).
 pub record BarNotation : Type 0 where

@@ -5,7 +5,7 @@
 -- a is the alphabet, P a row with what is kept beside it, q the pattern, p the position, y the output, r the answer; in a replacement
 -- n is the row length and v the replacement; in a sheet qs are the patterns, laid end to end, ls their lengths, y the output for the
 -- positions and z that for the results; O is the row on record with what is kept beside it. ' marks what a list holds afterwards.
-use Rattle.std.specs.Prelude.{ℕ, zero, suc, ◌+◌, ◌-◌, ◌*◌, ◌<◌, ◌≤◌, max, ◌≡◌, ◌↔◌, ◌⊎◌, ltb, eqb, length, get_or, take, drop, ℤ, pos, ◌-ℤ◌}
+use Rattle.std.specs.Prelude.{ℕ, zero, suc, ◌+◌, ◌-◌, ◌*◌, ◌<◌, ◌≤◌, max, ◌≡◌, ◌↔◌, ◌⊎◌, ltb, eqb, length, get_or, take, drop, ℤ, pos, ◌-ℤ◌, Bool, Result, Ok, ⊤}
 use mathlib.Core.List.{List, [], ◌∷◌, Memᴰ, map}
 use Rattle.rows.specs.Limits.{freed_symbol, freed_entry, freed_class, span_places, result_places, variables}
 use Rattle.rows.specs.Programme.{Alphabet, Programme, room, front, cut}
@@ -18,8 +18,6 @@ use Rattle.rows.specs.Promises.{OneTree, TreeOfRow, Entry, ClassOfRow, SameClass
 use Rattle.rows.specs.Refusals.{◌then◌, alphabet, sizes, symbols, fresh, given, pattern, replacement}
 use Rattle.rows.specs.declared.Leaves.TheVariants.{Blanks}
 use Rattle.rows.specs.declared.Refusal.TheVariants.{Row}
-use Rattle.rows.specs.declared.Check.{Check}
-use Rattle.rows.specs.declared.Check.TheVariants.{Fine}
 use Rattle.refusal_numbers.specs.Table.{Refuses, FirstStale, FirstMisclassed, Table}
 use Rattle.patterns.specs.Answers.{MatchesAt, Listed, facing, Has, Spanned}
 use Rattle.checks.specs.Checks.{build_check, search_check, find_check, variables_check, replace_check, subtree_check, newer_check, plain_check}
@@ -30,76 +28,71 @@ use Rattle.sparrowhem.specs.Sheet.{check_of, SheetAnswers}
 use Rattle.sparrowhem.specs.Edit.{new_tree, Replacement}
 use Rattle.sparrowhem.specs.Parts.{subtree_part, subtree_answer, SubtreeLies, NewestSays, NewerPart, NewerLies}
 use Rattle.sparrowhem.specs.Plain.{PlainSays}
-use Rattle.sparrowhem.specs.declared.search.Found.{Found}
-use Rattle.sparrowhem.specs.declared.search.Bound.{Bound}
-use Rattle.sparrowhem.specs.declared.search.SheetFound.{SheetFound}
-use Rattle.sparrowhem.specs.declared.edit.Replaced.{Replaced}
-use Rattle.sparrowhem.specs.declared.parts.Placed.{Placed}
 use Rattle.sparrowhem.specs.declared.parts.Newest.{Newest}
-use Rattle.sparrowhem.specs.declared.matcher.Fits.{Fits}
 use Rattle.promises.specs.Runs.{State, Call, Run, edits}
+use Rattle.rows.specs.declared.Refusal.{Refusal}
 
 -- ==== DEMAND 1
 
 -- "Every alphabet, row, table, pattern, position and length gets an answer": for every input, whatever its lists and numbers,
 -- there is one outcome that the contract admits, and no other. An outcome is the answer and what the lent lists hold afterwards.
 abbrev pub BuildOne : Type 0
-BuildOne = (a : Alphabet) (P : Programme) → One {X = Check × Programme} (λ x. Built a P x.0 x.1)
+BuildOne = (a : Alphabet) (P : Programme) → One {X = (Result ⊤ Refusal) × Programme} (λ x. Built a P x.0 x.1)
 
 abbrev pub FindOne : Type 0
-FindOne = (a : Alphabet) (P : Programme) (q y : List ℕ) → One {X = Found × List ℕ} (λ x. Finds a P q y x.0 x.1)
+FindOne = (a : Alphabet) (P : Programme) (q y : List ℕ) → One {X = (Result ℕ Refusal) × List ℕ} (λ x. Finds a P q y x.0 x.1)
 
 abbrev pub VariablesOne : Type 0
-VariablesOne = (a : Alphabet) (P : Programme) (q : List ℕ) (p : ℕ) (y : List ℕ) → One {X = Bound × List ℕ} (λ x. Binds a P q p y x.0 x.1)
+VariablesOne = (a : Alphabet) (P : Programme) (q : List ℕ) (p : ℕ) (y : List ℕ) → One {X = (Result Bool Refusal) × List ℕ} (λ x. Binds a P q p y x.0 x.1)
 
 abbrev pub SheetOne : Type 0
 SheetOne = (a : Alphabet) (P : Programme) (qs ls y z : List ℕ)
-    → One {X = SheetFound × List ℕ × List ℕ} (λ x. SheetAnswers a P qs ls y z x.0 x.1 x.2)
+    → One {X = (Result (ℕ × ℕ) Refusal) × List ℕ × List ℕ} (λ x. SheetAnswers a P qs ls y z x.0 x.1 x.2)
 
 abbrev pub ReplaceOne : Type 0
 ReplaceOne = (a : Alphabet) (P : Programme) (n : ℕ) (v : List ℕ) (p : ℕ)
-    → One {X = Replaced × Programme} (λ x. Replacement a P n v p x.0 x.1)
+    → One {X = (Result (ℕ × ℤ) Refusal) × Programme} (λ x. Replacement a P n v p x.0 x.1)
 
 -- the part that is handed back, and the companion's answer; and where the part lies, as block of memory and byte
 abbrev pub SubtreeOne : Type 0
 SubtreeOne = (a : Alphabet) (P : Programme) (p : ℕ)
-    → One {X = List ℕ × Placed} (λ x. (x.0 ≡ subtree_part a P p) × (x.1 ≡ subtree_answer a P p))
+    → One {X = List ℕ × (Result (ℕ × ℕ) Refusal)} (λ x. (x.0 ≡ subtree_part a P p) × (x.1 ≡ subtree_answer a P p))
 
 abbrev pub SubtreePlaceOne : Type 0
-SubtreePlaceOne = (r : Placed) (row : ℕ × ℕ) → One {X = ℕ × ℕ} (λ x. SubtreeLies r row x)
+SubtreePlaceOne = (r : Result (ℕ × ℕ) Refusal) (row : ℕ × ℕ) → One {X = ℕ × ℕ} (λ x. SubtreeLies r row x)
 
 abbrev pub NewerOne : Type 0
-NewerOne = (a : Alphabet) (P O : Programme) (q : List ℕ) → One {X = List ℕ × Newest} (λ x. NewerPart a P O q x.0 × NewestSays a P O q x.1)
+NewerOne = (a : Alphabet) (P O : Programme) (q : List ℕ) → One {X = List ℕ × Result Newest Refusal} (λ x. NewerPart a P O q x.0 × NewestSays a P O q x.1)
 
 abbrev pub NewerPlaceOne : Type 0
 NewerPlaceOne = (a : Alphabet) (P O : Programme) (q : List ℕ) (corrected older : ℕ × ℕ) → One {X = ℕ × ℕ} (λ x. NewerLies a P O q corrected older x)
 
 abbrev pub PlainOne : Type 0
-PlainOne = (a : Alphabet) (w q : List ℕ) (p : ℕ) → One {X = Fits} (λ r. PlainSays a w q p r)
+PlainOne = (a : Alphabet) (w q : List ℕ) (p : ℕ) → One {X = Result Bool Refusal} (λ r. PlainSays a w q p r)
 
 -- "A faulty one is refused with a number and a place, the first in the order": `Table` says exactly when each check refuses, with which
 -- number and place, and that of two checks the first that refuses counts. Each call refuses exactly as its chain of checks does, which
 -- stands in crates/checks/specs/Checks.
 abbrev pub BuildOrder : Type 0
-BuildOrder = (a : Alphabet) (P : Programme) (r : Check) (P' : Programme) → Built a P r P'
+BuildOrder = (a : Alphabet) (P : Programme) (r : Result ⊤ Refusal) (P' : Programme) → Built a P r P'
     → (k x : ℕ) → (check_said r ≡ refused k x) ↔ Refuses (build_check a P) k x
 
 -- 19 is for the list of all matches
 abbrev pub FindOrder : Type 0
-FindOrder = (a : Alphabet) (P : Programme) (q y : List ℕ) (r : Found) (y' : List ℕ) (f : Finds a P q y r y')
+FindOrder = (a : Alphabet) (P : Programme) (q y : List ℕ) (r : Result ℕ Refusal) (y' : List ℕ) (f : Finds a P q y r y')
     → (k x : ℕ) → (found_said r ≡ refused k x) ↔ Refuses (find_check a P q (length f.positions) (length y)) k x
 
 abbrev pub VariablesOrder : Type 0
-VariablesOrder = (a : Alphabet) (P : Programme) (q : List ℕ) (p : ℕ) (y : List ℕ) (r : Bound) (y' : List ℕ) → Binds a P q p y r y'
+VariablesOrder = (a : Alphabet) (P : Programme) (q : List ℕ) (p : ℕ) (y : List ℕ) (r : Result Bool Refusal) (y' : List ℕ) → Binds a P q p y r y'
     → (k x : ℕ) → (bound_said r ≡ refused k x) ↔ Refuses (variables_check a P q p (length y)) k x
 
 -- 19 is for the results, then for the positions of all patterns together
 abbrev pub SheetOrder : Type 0
-SheetOrder = (a : Alphabet) (P : Programme) (qs ls y z : List ℕ) (r : SheetFound) (y' z' : List ℕ) (s : SheetAnswers a P qs ls y z r y' z')
+SheetOrder = (a : Alphabet) (P : Programme) (qs ls y z : List ℕ) (r : Result (ℕ × ℕ) Refusal) (y' z' : List ℕ) (s : SheetAnswers a P qs ls y z r y' z')
     → (k x : ℕ) → (sheet_said r ≡ refused k x) ↔ Refuses (check_of a P qs ls y z s.positions) k x
 
 abbrev pub ReplaceOrder : Type 0
-ReplaceOrder = (a : Alphabet) (P : Programme) (n : ℕ) (v : List ℕ) (p : ℕ) (r : Replaced) (P' : Programme) → Replacement a P n v p r P'
+ReplaceOrder = (a : Alphabet) (P : Programme) (n : ℕ) (v : List ℕ) (p : ℕ) (r : Result (ℕ × ℤ) Refusal) (P' : Programme) → Replacement a P n v p r P'
     → (k x : ℕ) → (replaced_said r ≡ refused k x) ↔ Refuses (replace_check a P n v p) k x
 
 abbrev pub SubtreeOrder : Type 0
@@ -107,50 +100,50 @@ SubtreeOrder = (a : Alphabet) (P : Programme) (p : ℕ)
     → (k x : ℕ) → (placed_said (subtree_answer a P p) ≡ refused k x) ↔ Refuses (subtree_check a P p) k x
 
 abbrev pub NewerOrder : Type 0
-NewerOrder = (a : Alphabet) (P O : Programme) (q : List ℕ) (r : Newest) → NewestSays a P O q r
+NewerOrder = (a : Alphabet) (P O : Programme) (q : List ℕ) (r : Result Newest Refusal) → NewestSays a P O q r
     → (k x : ℕ) → (newest_said r ≡ refused k x) ↔ Refuses (newer_check a P O q) k x
 
 abbrev pub PlainOrder : Type 0
-PlainOrder = (a : Alphabet) (w q : List ℕ) (p : ℕ) (r : Fits) → PlainSays a w q p r
+PlainOrder = (a : Alphabet) (w q : List ℕ) (p : ℕ) (r : Result Bool Refusal) → PlainSays a w q p r
     → (k x : ℕ) → (fits_said r ≡ refused k x) ↔ Refuses (plain_check a w q p) k x
 
 -- find refuses with 19 exactly if it refuses nothing earlier and there are more matches than places; the place is their number
 abbrev pub FindShort : Type 0
-FindShort = (a : Alphabet) (P : Programme) (q y : List ℕ) (r : Found) (y' : List ℕ) → Finds a P q y r y'
-    → search_check a P q ≡ Fine → (ps : List ℕ) → Listed a P.row q (length P.row) ps
+FindShort = (a : Alphabet) (P : Programme) (q y : List ℕ) (r : Result ℕ Refusal) (y' : List ℕ) → Finds a P q y r y'
+    → search_check a P q ≡ Ok tt → (ps : List ℕ) → Listed a P.row q (length P.row) ps
     → (found_said r ≡ refused 19 (length ps)) ↔ (length y < length ps)
 
 -- "A refusal writes nothing into any lent buffer." The other calls are lent no buffer to write into.
 abbrev pub BuildRefused : Type 0
-BuildRefused = (a : Alphabet) (P : Programme) (r : Check) (P' : Programme) → Built a P r P' → (k x : ℕ) → check_said r ≡ refused k x → P' ≡ P
+BuildRefused = (a : Alphabet) (P : Programme) (r : Result ⊤ Refusal) (P' : Programme) → Built a P r P' → (k x : ℕ) → check_said r ≡ refused k x → P' ≡ P
 
 abbrev pub FindRefused : Type 0
-FindRefused = (a : Alphabet) (P : Programme) (q y : List ℕ) (r : Found) (y' : List ℕ) → Finds a P q y r y'
+FindRefused = (a : Alphabet) (P : Programme) (q y : List ℕ) (r : Result ℕ Refusal) (y' : List ℕ) → Finds a P q y r y'
     → (k x : ℕ) → found_said r ≡ refused k x → y' ≡ y
 
 abbrev pub VariablesRefused : Type 0
-VariablesRefused = (a : Alphabet) (P : Programme) (q : List ℕ) (p : ℕ) (y : List ℕ) (r : Bound) (y' : List ℕ) → Binds a P q p y r y'
+VariablesRefused = (a : Alphabet) (P : Programme) (q : List ℕ) (p : ℕ) (y : List ℕ) (r : Result Bool Refusal) (y' : List ℕ) → Binds a P q p y r y'
     → (k x : ℕ) → bound_said r ≡ refused k x → y' ≡ y
 
 -- neither the positions nor the results
 abbrev pub SheetRefused : Type 0
-SheetRefused = (a : Alphabet) (P : Programme) (qs ls y z : List ℕ) (r : SheetFound) (y' z' : List ℕ) → SheetAnswers a P qs ls y z r y' z'
+SheetRefused = (a : Alphabet) (P : Programme) (qs ls y z : List ℕ) (r : Result (ℕ × ℕ) Refusal) (y' z' : List ℕ) → SheetAnswers a P qs ls y z r y' z'
     → (k x : ℕ) → sheet_said r ≡ refused k x → (y' ≡ y) × (z' ≡ z)
 
 abbrev pub ReplaceRefused : Type 0
-ReplaceRefused = (a : Alphabet) (P : Programme) (n : ℕ) (v : List ℕ) (p : ℕ) (r : Replaced) (P' : Programme) → Replacement a P n v p r P'
+ReplaceRefused = (a : Alphabet) (P : Programme) (n : ℕ) (v : List ℕ) (p : ℕ) (r : Result (ℕ × ℤ) Refusal) (P' : Programme) → Replacement a P n v p r P'
     → (k x : ℕ) → replaced_said r ≡ refused k x → P' ≡ P
 
 -- "A call that reads a table refuses it as stale if an entry differs from the row's", and likewise with the classes. Nothing from 1 to 9
 -- is wrong with a row of n symbols, and p is the first position where its table differs.
 pub record StaleAt (a : Alphabet) (P : Programme) (n p : ℕ) : Type 0 where
-  pub earlier : alphabet a then sizes Row n (room P) then symbols Row a.arities (front n P).row ≡ Fine
+  pub earlier : alphabet a then sizes Row n (room P) then symbols Row a.arities (front n P).row ≡ Ok tt
   pub first : FirstStale a.arities (front n P).row P.table p
 
 -- nothing from 1 to 10 is wrong, and p is the first position where its classes differ
 pub record MisclassedAt (a : Alphabet) (P : Programme) (n p : ℕ) : Type 0 where
   pub earlier :
-      alphabet a then sizes Row n (room P) then symbols Row a.arities (front n P).row then fresh Row a.arities (front n P).row P.table ≡ Fine
+      alphabet a then sizes Row n (room P) then symbols Row a.arities (front n P).row then fresh Row a.arities (front n P).row P.table ≡ Ok tt
   pub first : FirstMisclassed a.arities (front n P).row P.classes p
 
 -- the one, which is 10, or the other, which is 62
@@ -158,19 +151,19 @@ abbrev pub WrongBeside : Alphabet → Programme → ℕ → ℕ → ℕ → Type
 WrongBeside a P n k p = ((k ≡ 10) × StaleAt a P n p) ⊎ ((k ≡ 62) × MisclassedAt a P n p)
 
 abbrev pub FindStale : Type 0
-FindStale = (a : Alphabet) (P : Programme) (q y : List ℕ) (r : Found) (y' : List ℕ) (k p : ℕ) → Finds a P q y r y'
+FindStale = (a : Alphabet) (P : Programme) (q y : List ℕ) (r : Result ℕ Refusal) (y' : List ℕ) (k p : ℕ) → Finds a P q y r y'
     → WrongBeside a P (length P.row) k p → found_said r ≡ refused k p
 
 abbrev pub VariablesStale : Type 0
-VariablesStale = (a : Alphabet) (P : Programme) (q : List ℕ) (x : ℕ) (y : List ℕ) (r : Bound) (y' : List ℕ) (k p : ℕ) → Binds a P q x y r y'
+VariablesStale = (a : Alphabet) (P : Programme) (q : List ℕ) (x : ℕ) (y : List ℕ) (r : Result Bool Refusal) (y' : List ℕ) (k p : ℕ) → Binds a P q x y r y'
     → WrongBeside a P (length P.row) k p → bound_said r ≡ refused k p
 
 abbrev pub SheetStale : Type 0
-SheetStale = (a : Alphabet) (P : Programme) (qs ls y z : List ℕ) (r : SheetFound) (y' z' : List ℕ) (k p : ℕ) → SheetAnswers a P qs ls y z r y' z'
+SheetStale = (a : Alphabet) (P : Programme) (qs ls y z : List ℕ) (r : Result (ℕ × ℕ) Refusal) (y' z' : List ℕ) (k p : ℕ) → SheetAnswers a P qs ls y z r y' z'
     → WrongBeside a P (length P.row) k p → sheet_said r ≡ refused k p
 
 abbrev pub ReplaceStale : Type 0
-ReplaceStale = (a : Alphabet) (P : Programme) (n : ℕ) (v : List ℕ) (x : ℕ) (r : Replaced) (P' : Programme) (k p : ℕ) → Replacement a P n v x r P'
+ReplaceStale = (a : Alphabet) (P : Programme) (n : ℕ) (v : List ℕ) (x : ℕ) (r : Result (ℕ × ℤ) Refusal) (P' : Programme) (k p : ℕ) → Replacement a P n v x r P'
     → WrongBeside a P n k p → replaced_said r ≡ refused k p
 
 abbrev pub SubtreeStale : Type 0
@@ -178,13 +171,13 @@ SubtreeStale = (a : Alphabet) (P : Programme) (x k p : ℕ) → WrongBeside a P 
 
 -- what is kept beside the corrected row, or where that is fine, beside the row on record: 50 and 102
 abbrev pub NewerStale : Type 0
-NewerStale = (a : Alphabet) (P O : Programme) (q : List ℕ) (r : Newest) (k p : ℕ) → NewestSays a P O q r
+NewerStale = (a : Alphabet) (P O : Programme) (q : List ℕ) (r : Result Newest Refusal) (k p : ℕ) → NewestSays a P O q r
     → (WrongBeside a P (length P.row) k p → newest_said r ≡ refused k p)
-    × (given a P (length P.row) ≡ Fine → WrongBeside a O (length O.row) k p → newest_said r ≡ refused (40 + k) p)
+    × (given a P (length P.row) ≡ Ok tt → WrongBeside a O (length O.row) k p → newest_said r ≡ refused (40 + k) p)
 
 -- "A refused corrected row never falls through to the older one"
 abbrev pub NewerRefused : Type 0
-NewerRefused = (a : Alphabet) (P O : Programme) (q : List ℕ) (r : Newest) (k x : ℕ) → NewestSays a P O q r
+NewerRefused = (a : Alphabet) (P O : Programme) (q : List ℕ) (r : Result Newest Refusal) (k x : ℕ) → NewestSays a P O q r
     → Refuses (given a P (length P.row)) k x → newest_said r ≡ refused k x
 
 -- ==== DEMAND 2
@@ -192,17 +185,17 @@ NewerRefused = (a : Alphabet) (P O : Programme) (q : List ℕ) (r : Newest) (k x
 -- "Within the sizes a row is accepted exactly if it is the prefix notation of a ranked tree": the check 7 to 9 of every call says so,
 -- and so do those of a pattern, where S and the variables may be leaves, and of a replacement. Build accepts what they accept.
 abbrev pub RowsAccepted : Type 0
-RowsAccepted = (A w : List ℕ) → (symbols Row A w ≡ Fine) ↔ IsRow A (symbol A) w
+RowsAccepted = (A w : List ℕ) → (symbols Row A w ≡ Ok tt) ↔ IsRow A (symbol A) w
 
 abbrev pub PatternsAccepted : Type 0
-PatternsAccepted = (A q : List ℕ) → 1 ≤ length q → length q ≤ 256 → (pattern A q ≡ Fine) ↔ IsRow A (allowed Blanks A) q
+PatternsAccepted = (A q : List ℕ) → 1 ≤ length q → length q ≤ 256 → (pattern A q ≡ Ok tt) ↔ IsRow A (allowed Blanks A) q
 
 abbrev pub ReplacementsAccepted : Type 0
-ReplacementsAccepted = (A v : List ℕ) → 1 ≤ length v → length v ≤ 16384 → (replacement A v ≡ Fine) ↔ IsRow A (symbol A) v
+ReplacementsAccepted = (A v : List ℕ) → 1 ≤ length v → length v ≤ 16384 → (replacement A v ≡ Ok tt) ↔ IsRow A (symbol A) v
 
 abbrev pub BuildAccepts : Type 0
-BuildAccepts = (a : Alphabet) (P : Programme) (r : Check) (P' : Programme) → Built a P r P'
-    → alphabet a ≡ Fine → sizes Row (length P.row) (room P) ≡ Fine → (check_said r ≡ gives []) ↔ IsRow a.arities (symbol a.arities) P.row
+BuildAccepts = (a : Alphabet) (P : Programme) (r : Result ⊤ Refusal) (P' : Programme) → Built a P r P'
+    → alphabet a ≡ Ok tt → sizes Row (length P.row) (room P) ≡ Ok tt → (check_said r ≡ gives []) ↔ IsRow a.arities (symbol a.arities) P.row
 
 -- What build leaves, told by the row's tree: the table begins with the ends of its subtrees, and entry p is the only end that makes
 -- the symbols from p on a row, that of the subtree at p; the classes begin with those of its subtrees, and class p is the first position
@@ -217,7 +210,7 @@ pub record LeftBeside (a : Alphabet) (P P' : Programme) (x : IsRow a.arities (sy
   pub row_stays : P'.row ≡ P.row
 
 abbrev pub BuildWrites : Type 0
-BuildWrites = (a : Alphabet) (P : Programme) (r : Check) (P' : Programme) → Built a P r P' → check_said r ≡ gives []
+BuildWrites = (a : Alphabet) (P : Programme) (r : Result ⊤ Refusal) (P' : Programme) → Built a P r P' → check_said r ≡ gives []
     → (x : IsRow a.arities (symbol a.arities) P.row) → LeftBeside a P P' x
 
 -- "An answered search lists a position exactly if some choice of trees for the blanks, the same tree wherever the same variable
@@ -225,7 +218,7 @@ BuildWrites = (a : Alphabet) (P : Programme) (r : Check) (P' : Programme) → Bu
 -- the row's own tree is `TreeOfRow`, and that it is the only one `OneTree`). The list is the first n places of the output, for the
 -- answer n; later places stay.
 abbrev pub FindLists : Type 0
-FindLists = (a : Alphabet) (P : Programme) (q y : List ℕ) (n : ℕ) (r : Found) (y' : List ℕ) → Finds a P q y r y' → found_said r ≡ gives (pos n ∷ [])
+FindLists = (a : Alphabet) (P : Programme) (q y : List ℕ) (n : ℕ) (r : Result ℕ Refusal) (y' : List ℕ) → Finds a P q y r y' → found_said r ≡ gives (pos n ∷ [])
     → Listed a P.row q (length P.row) (take n y') × (length (take n y') ≡ n) × (drop n y' ≡ drop n y)
 
 -- A sheet answers each of its patterns as find would alone. The results z hold three numbers for each pattern, in the order of the
@@ -246,7 +239,7 @@ positions_begin z (suc i) = positions_begin z i + count_at z i
 
 -- what the sheet leaves for pattern i is what find says of it, f, and leaves in its output, x': its count, with no refusal; or its
 -- refusal and place, with no position. The stretch of its positions is find's list.
-pub record AsAlone (f : Found) (x' y' z' : List ℕ) (i : ℕ) : Type 0 where
+pub record AsAlone (f : Result ℕ Refusal) (x' y' z' : List ℕ) (i : ℕ) : Type 0 where
   pub said :
       ((found_said f ≡ gives (pos (count_at z' i) ∷ [])) × (refusal_at z' i ≡ 0) × (place_at z' i ≡ 0))
       ⊎ ((found_said f ≡ refused (refusal_at z' i) (place_at z' i)) × (count_at z' i ≡ 0))
@@ -254,9 +247,9 @@ pub record AsAlone (f : Found) (x' y' z' : List ℕ) (i : ℕ) : Type 0 where
 
 -- for any outcome of find with the same lists and an output x that has room (it does not refuse with 19)
 abbrev pub SheetAlone : Type 0
-SheetAlone = (a : Alphabet) (P : Programme) (qs ls y z : List ℕ) (r : SheetFound) (y' z' : List ℕ) → SheetAnswers a P qs ls y z r y' z'
+SheetAlone = (a : Alphabet) (P : Programme) (qs ls y z : List ℕ) (r : Result (ℕ × ℕ) Refusal) (y' z' : List ℕ) → SheetAnswers a P qs ls y z r y' z'
     → (n m : ℕ) → sheet_said r ≡ gives (pos n ∷ pos m ∷ []) → (i : ℕ) → i < n
-    → (x : List ℕ) (f : Found) (x' : List ℕ) → Finds a P (pattern_at qs ls i) x f x' → ((k : ℕ) → found_said f ≡ refused 19 k → ⊥)
+    → (x : List ℕ) (f : Result ℕ Refusal) (x' : List ℕ) → Finds a P (pattern_at qs ls i) x f x' → ((k : ℕ) → found_said f ≡ refused 19 k → ⊥)
     → AsAlone f x' y' z' i
 
 -- The answer n, m of a sheet: n is the number of its patterns, and m that of all positions, so that their stretches fill the first m
@@ -268,13 +261,13 @@ pub record Settled (ls y z : List ℕ) (n m : ℕ) (y' z' : List ℕ) : Type 0 w
   pub results_later : drop (result_places * n) z' ≡ drop (result_places * n) z
 
 abbrev pub SheetSettled : Type 0
-SheetSettled = (a : Alphabet) (P : Programme) (qs ls y z : List ℕ) (r : SheetFound) (y' z' : List ℕ) → SheetAnswers a P qs ls y z r y' z'
+SheetSettled = (a : Alphabet) (P : Programme) (qs ls y z : List ℕ) (r : Result (ℕ × ℕ) Refusal) (y' z' : List ℕ) → SheetAnswers a P qs ls y z r y' z'
     → (n m : ℕ) → sheet_said r ≡ gives (pos n ∷ pos m ∷ []) → Settled ls y z n m y' z'
 
 -- "the choice for each variable is returned, and no other would do". The variables call that does not refuse says whether the pattern
 -- matches. If it does, it leaves begin and end of each variable in the output (`Spanned` says what they are), those of the subtree
 -- that the variable's first place faces; 0 and 0 for one that the pattern lacks; later places stay. If not, it writes nothing.
-pub record BoundExactly (a : Alphabet) (w q : List ℕ) (p : ℕ) (y : List ℕ) (r : Bound) (y' : List ℕ) : Type 0 where
+pub record BoundExactly (a : Alphabet) (w q : List ℕ) (p : ℕ) (y : List ℕ) (r : Result Bool Refusal) (y' : List ℕ) : Type 0 where
   pub below : p < length w
   pub matched : (bound_said r ≡ gives (pos 1 ∷ [])) ↔ MatchesAt a w q p
   pub unmatched : (bound_said r ≡ gives (pos 0 ∷ [])) ↔ (MatchesAt a w q p → ⊥)
@@ -285,19 +278,19 @@ pub record BoundExactly (a : Alphabet) (w q : List ℕ) (p : ℕ) (y : List ℕ)
   pub unwritten : (MatchesAt a w q p → ⊥) → y' ≡ y
 
 abbrev pub VariablesExactly : Type 0
-VariablesExactly = (a : Alphabet) (P : Programme) (q : List ℕ) (p : ℕ) (y : List ℕ) (r : Bound) (y' : List ℕ) → Binds a P q p y r y'
-    → variables_check a P q p (length y) ≡ Fine → BoundExactly a P.row q p y r y'
+VariablesExactly = (a : Alphabet) (P : Programme) (q : List ℕ) (p : ℕ) (y : List ℕ) (r : Result Bool Refusal) (y' : List ℕ) → Binds a P q p y r y'
+    → variables_check a P q p (length y) ≡ Ok tt → BoundExactly a P.row q p y r y'
 
 -- the plain matcher says the same, without a table
 abbrev pub PlainExactly : Type 0
-PlainExactly = (a : Alphabet) (w q : List ℕ) (p : ℕ) (r : Fits) → PlainSays a w q p r → plain_check a w q p ≡ Fine
+PlainExactly = (a : Alphabet) (w q : List ℕ) (p : ℕ) (r : Result Bool Refusal) → PlainSays a w q p r → plain_check a w q p ≡ Ok tt
     → ((fits_said r ≡ gives (pos 1 ∷ [])) ↔ MatchesAt a w q p) × ((fits_said r ≡ gives (pos 0 ∷ [])) ↔ (MatchesAt a w q p → ⊥))
 
 -- "Plain matcher and find agree": the same alphabet, row and pattern for both, and for find lists that build leaves of such as are
 -- long enough: the built ones, or for a refused row any that are long enough.
-pub record Both (a : Alphabet) (P : Programme) (q y : List ℕ) (f : Found) (y' : List ℕ) (p : ℕ) (r : Fits) : Type 0 where
+pub record Both (a : Alphabet) (P : Programme) (q y : List ℕ) (f : Result ℕ Refusal) (y' : List ℕ) (p : ℕ) (r : Result Bool Refusal) : Type 0 where
   pub old : Programme
-  pub build : Check
+  pub build : Result ⊤ Refusal
   pub long : length old.row ≤ room old
   pub built : Built a old build P
   pub finds : Finds a P q y f y'
@@ -305,13 +298,13 @@ pub record Both (a : Alphabet) (P : Programme) (q y : List ℕ) (f : Found) (y' 
 
 -- the plain matcher says yes exactly where find, given room enough (it does not refuse with 19), lists the position
 abbrev pub PlainFinds : Type 0
-PlainFinds = (a : Alphabet) (P : Programme) (q y : List ℕ) (f : Found) (y' : List ℕ) (p : ℕ) (r : Fits) → Both a P q y f y' p r
+PlainFinds = (a : Alphabet) (P : Programme) (q y : List ℕ) (f : Result ℕ Refusal) (y' : List ℕ) (p : ℕ) (r : Result Bool Refusal) → Both a P q y f y' p r
     → ((n : ℕ) → found_said f ≡ refused 19 n → ⊥)
     → (fits_said r ≡ gives (pos 1 ∷ [])) ↔ ((n : ℕ) × (found_said f ≡ gives (pos n ∷ [])) × Memᴰ p (take n y'))
 
 -- a refusal up to 15 is the same from both, number and place (6 and 10 come from neither, since the lists are long enough and the row's)
 abbrev pub PlainRefuses : Type 0
-PlainRefuses = (a : Alphabet) (P : Programme) (q y : List ℕ) (f : Found) (y' : List ℕ) (p : ℕ) (r : Fits) → Both a P q y f y' p r
+PlainRefuses = (a : Alphabet) (P : Programme) (q y : List ℕ) (f : Result ℕ Refusal) (y' : List ℕ) (p : ℕ) (r : Result Bool Refusal) → Both a P q y f y' p r
     → (k x : ℕ) → k ≤ 15 → (fits_said r ≡ refused k x) ↔ (found_said f ≡ refused k x)
 
 -- "the subtree is handed back as a part of the lent row": it lies in the row between the begin and the end that the companion answers,
@@ -327,12 +320,12 @@ SubtreeEmpty = (a : Alphabet) (P : Programme) (p : ℕ)
 -- newer or older: the part lies in the row that the companion names, between its position and end; it is empty exactly if the companion
 -- names none or refuses
 abbrev pub NewerPartIs : Type 0
-NewerPartIs = (a : Alphabet) (P O : Programme) (q x : List ℕ) (r : Newest) (p e : ℕ) → NewerPart a P O q x → NewestSays a P O q r
+NewerPartIs = (a : Alphabet) (P O : Programme) (q x : List ℕ) (r : Result Newest Refusal) (p e : ℕ) → NewerPart a P O q x → NewestSays a P O q r
     → (newest_said r ≡ gives (pos 1 ∷ pos p ∷ pos e ∷ []) → (p < e) × (e ≤ length P.row) × (x ≡ take (e - p) (drop p P.row)))
     × (newest_said r ≡ gives (pos 2 ∷ pos p ∷ pos e ∷ []) → (p < e) × (e ≤ length O.row) × (x ≡ take (e - p) (drop p O.row)))
 
 abbrev pub NewerEmpty : Type 0
-NewerEmpty = (a : Alphabet) (P O : Programme) (q x : List ℕ) (r : Newest) → NewerPart a P O q x → NewestSays a P O q r
+NewerEmpty = (a : Alphabet) (P O : Programme) (q x : List ℕ) (r : Result Newest Refusal) → NewerPart a P O q x → NewestSays a P O q r
     → (x ≡ []) ↔ ((newest_said r ≡ gives (pos 0 ∷ [])) ⊎ ((k : ℕ) × (y : ℕ) × (newest_said r ≡ refused k y)))
 
 -- ==== DEMAND 3
@@ -352,7 +345,7 @@ pub record Written (a : Alphabet) (P : Programme) (n : ℕ) (v : List ℕ) (p m 
       × (drop (max n m) P'.classes ≡ drop (max n m) P.classes)
 
 abbrev pub ReplaceWrites : Type 0
-ReplaceWrites = (a : Alphabet) (P : Programme) (n : ℕ) (v : List ℕ) (p m : ℕ) (change : ℤ) (r : Replaced) (P' : Programme) → Replacement a P n v p r P'
+ReplaceWrites = (a : Alphabet) (P : Programme) (n : ℕ) (v : List ℕ) (p m : ℕ) (change : ℤ) (r : Result (ℕ × ℤ) Refusal) (P' : Programme) → Replacement a P n v p r P'
     → replaced_said r ≡ gives (pos m ∷ change ∷ []) → Written a P n v p m change P'
 
 -- "The row is what the same replacements in the tree give, table and classes what a fresh build gives": a caller holds the row of the tree f,
@@ -360,14 +353,14 @@ ReplaceWrites = (a : Alphabet) (P : Programme) (n : ℕ) (v : List ℕ) (p m : �
 pub record Follows (a : Alphabet) (s : State) (f : Forest) : Type 0 where
   pub length_is : s.length ≡ size f
   pub row_is : take s.length s.lists.row ≡ prefix f
-  pub accepted : given a s.lists s.length ≡ Fine
-  pub built_is : (T : Programme) (r : Check) (T' : Programme) → T.row ≡ take s.length s.lists.row → s.length ≤ room T → Built a T r T'
+  pub accepted : given a s.lists s.length ≡ Ok tt
+  pub built_is : (T : Programme) (r : Result ⊤ Refusal) (T' : Programme) → T.row ≡ take s.length s.lists.row → s.length ≤ room T → Built a T r T'
       → (check_said r ≡ gives []) × (cut s.length s.lists ≡ cut s.length T')
 
 -- "From an accepted row with its built table and classes, after any replacements under one alphabet, some refused": the tree is that of the
 -- first row with the replacements that were not refused made in it, one after the other.
 abbrev pub AfterRun : Type 0
-AfterRun = (a : Alphabet) (T : Programme) (r : Check) (P : Programme) (n : ℕ) → Built a T r (front n P) → check_said r ≡ gives [] → length T.row ≡ n
+AfterRun = (a : Alphabet) (T : Programme) (r : Result ⊤ Refusal) (P : Programme) (n : ℕ) → Built a T r (front n P) → check_said r ≡ gives [] → length T.row ≡ n
     → (x : IsRow a.arities (symbol a.arities) T.row) (calls : List Call) (s : State) → Run a (record { lists = P; length = n }) calls s
     → Follows a s (edits a.arities (single x.tree) calls)
 
@@ -376,7 +369,7 @@ AfterRun = (a : Alphabet) (T : Programme) (r : Check) (P : Programme) (n : ℕ) 
 pub record Beside (a : Alphabet) (P : Programme) (n p m : ℕ) (P' : Programme) (q q' : ℕ) : Type 0 where
   pub new : List ℕ
   pub change : ℤ
-  pub answer : Replaced
+  pub answer : Result (ℕ × ℤ) Refusal
   pub answered : replaced_said answer ≡ gives (pos m ∷ change ∷ [])
   pub replaced : Replacement a P n new p answer P'
   pub below : q < n
@@ -393,7 +386,7 @@ moved_span n m x = pick (eqb x 0) 0 (x + m - n)
 
 abbrev pub VariablesStay : Type 0
 VariablesStay = (a : Alphabet) (P : Programme) (n p m : ℕ) (P' : Programme) (q q' : ℕ) → Beside a P n p m P' q q'
-    → (Q y : List ℕ) (r : Bound) (y' z : List ℕ) (s : Bound) (z' : List ℕ) → span_places ≤ length y → span_places ≤ length z
+    → (Q y : List ℕ) (r : Result Bool Refusal) (y' z : List ℕ) (s : Result Bool Refusal) (z' : List ℕ) → span_places ≤ length y → span_places ≤ length z
     → Binds a (front n P) Q q y r y' → Binds a (front m P') Q q' z s z'
     → (bound_said s ≡ bound_said r)
     × (bound_said r ≡ gives (pos 1 ∷ []) → take span_places z' ≡ map (λ x. pick (ltb q p) x (moved_span n m x)) (take span_places y'))
@@ -401,19 +394,19 @@ VariablesStay = (a : Alphabet) (P : Programme) (n p m : ℕ) (P' : Programme) (q
 -- and find lists it afterwards exactly if it did before
 abbrev pub FindStays : Type 0
 FindStays = (a : Alphabet) (P : Programme) (n p m : ℕ) (P' : Programme) (q q' : ℕ) → Beside a P n p m P' q q'
-    → (Q y : List ℕ) (b : ℕ) (r : Found) (y' z : List ℕ) (c : ℕ) (s : Found) (z' : List ℕ)
+    → (Q y : List ℕ) (b : ℕ) (r : Result ℕ Refusal) (y' z : List ℕ) (c : ℕ) (s : Result ℕ Refusal) (z' : List ℕ)
     → Finds a (front n P) Q y r y' → found_said r ≡ gives (pos b ∷ []) → Finds a (front m P') Q z s z' → found_said s ≡ gives (pos c ∷ [])
     → Memᴰ q' (take c z') ↔ Memᴰ q (take b y')
 
 -- and the plain matcher says the same of it, also where it refuses the pattern
 abbrev pub PlainStays : Type 0
 PlainStays = (a : Alphabet) (P : Programme) (n p m : ℕ) (P' : Programme) (q q' : ℕ) → Beside a P n p m P' q q'
-    → (Q : List ℕ) (r s : Fits) → PlainSays a (front n P).row Q q r → PlainSays a (front m P').row Q q' s → fits_said s ≡ fits_said r
+    → (Q : List ℕ) (r s : Result Bool Refusal) → PlainSays a (front n P).row Q q r → PlainSays a (front m P').row Q q' s → fits_said s ≡ fits_said r
 
 -- "Putting the old subtree straight back is never refused and restores row, table and classes": into the same lists, with the length last
 -- answered and under the same alphabet, the symbols from p up to the old end.
 abbrev pub PuttingBack : Type 0
-PuttingBack = (a : Alphabet) (P : Programme) (n : ℕ) (v : List ℕ) (p m : ℕ) (change : ℤ) (r : Replaced) (P₁ : Programme) (s : Replaced) (P₂ : Programme)
+PuttingBack = (a : Alphabet) (P : Programme) (n : ℕ) (v : List ℕ) (p m : ℕ) (change : ℤ) (r : Result (ℕ × ℤ) Refusal) (P₁ : Programme) (s : Result (ℕ × ℤ) Refusal) (P₂ : Programme)
     → Replacement a P n v p r P₁ → replaced_said r ≡ gives (pos m ∷ change ∷ [])
     → Replacement a P₁ m (take (get_or P.table p 0 - p) (drop p P.row)) p s P₂
     → (replaced_said s ≡ gives (pos n ∷ (pos n -ℤ pos m) ∷ [])) × (cut n P₂ ≡ cut n P)
@@ -423,7 +416,7 @@ PuttingBack = (a : Alphabet) (P : Programme) (n : ℕ) (v : List ℕ) (p m : ℕ
 -- change in length.
 abbrev pub EitherOrder : Type 0
 EitherOrder = (a : Alphabet) (P : Programme) (n : ℕ) (u : List ℕ) (p : ℕ) (v : List ℕ) (q q' : ℕ) (m₁ m₁₂ m₂ m₂₁ : ℕ) (c₁ c₁₂ c₂ c₂₁ : ℤ)
-    (r₁ r₁₂ r₂ r₂₁ : Replaced) (P₁ P₁₂ P₂ P₂₁ : Programme) → get_or P.table p 0 ≤ q → q' + n ≡ q + m₁
+    (r₁ r₁₂ r₂ r₂₁ : Result (ℕ × ℤ) Refusal) (P₁ P₁₂ P₂ P₂₁ : Programme) → get_or P.table p 0 ≤ q → q' + n ≡ q + m₁
     → Replacement a P n u p r₁ P₁ → replaced_said r₁ ≡ gives (pos m₁ ∷ c₁ ∷ [])
     → Replacement a P₁ m₁ v q' r₁₂ P₁₂ → replaced_said r₁₂ ≡ gives (pos m₁₂ ∷ c₁₂ ∷ [])
     → Replacement a P n v q r₂ P₂ → replaced_said r₂ ≡ gives (pos m₂ ∷ c₂ ∷ [])

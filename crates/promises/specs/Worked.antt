@@ -1,68 +1,58 @@
 -- The worked programmes of docs/SCOPE.md that are proved: one table of calls, each with what it says and leaves, under one
 -- statement. Each line is an instance of the call's own contract: some answer that the contract admits, with these lists
 -- afterwards, says so; that there is no other is `BuildOne`, `FindOne` and so on in Demands.
-use Rattle.std.specs.Prelude.{ℕ, ◌≡◌, List, [], ◌∷◌, ◌++◌, length, replicate, pos, negsuc}
+use Rattle.std.specs.Prelude.{ℕ, ◌≡◌, List, [], ◌∷◌, ◌++◌, length, replicate, pos, negsuc, Bool, ℤ, Result, Err, ⊤}
 use Rattle.rows.specs.Limits.{bar}
 use Rattle.rows.specs.Programme.{Alphabet, Programme, alphabet_of, programme}
 use Rattle.rows.specs.declared.Refusal.{Refusal}
-use Rattle.rows.specs.declared.Check.{Check}
 use Rattle.refusal_numbers.specs.Numbers.{programme as programmeBeside}
 use Rattle.bars.specs.Calls.{ReadsBars, WritesBars}
-use Rattle.bars.specs.declared.BarsRead.{BarsRead}
-use Rattle.bars.specs.declared.BarsWritten.{BarsWritten}
 use Rattle.catalogue.specs.Reading.{row_in}
 use Rattle.catalogue.specs.Refusals.{row_check}
 use Rattle.catalogue.specs.declared.Entry.{Entry}
 use Rattle.catalogue_read.specs.Answers.{Reads, Takes}
 use Rattle.catalogue_read.specs.declared.Opened.{Opened}
-use Rattle.catalogue_read.specs.declared.numbers.Taken.{Taken}
 use Rattle.catalogue_write.specs.Answers.{Writes}
-use Rattle.catalogue_write.specs.declared.Filed.{Filed}
-use Rattle.catalogue_write.specs.declared.Filed.TheVariants.{Refused as Unfiled}
 use Rattle.sparrowhem.specs.Said.{Said, Said.refused, Said.gives, check_said, found_said, bound_said, sheet_said, replaced_said, opened_said, taken_said, filed_said, bars_read_said, bars_written_said}
 use Rattle.sparrowhem.specs.Build.{Built}
 use Rattle.sparrowhem.specs.Search.{Finds, Binds}
 use Rattle.sparrowhem.specs.Sheet.{SheetAnswers}
 use Rattle.sparrowhem.specs.Edit.{Replacement}
-use Rattle.sparrowhem.specs.declared.search.Found.{Found}
-use Rattle.sparrowhem.specs.declared.search.Bound.{Bound}
-use Rattle.sparrowhem.specs.declared.search.SheetFound.{SheetFound}
-use Rattle.sparrowhem.specs.declared.edit.Replaced.{Replaced}
 
 -- what a call says, and what the lists hold afterwards
 abbrev pub BuildSays : Alphabet → Programme → Said → Programme → Type 0
-BuildSays a P said P' = (r : Check) × Built a P r P' × (check_said r ≡ said)
+BuildSays a P said P' = (r : Result ⊤ Refusal) × Built a P r P' × (check_said r ≡ said)
 
 abbrev pub FindSays : Alphabet → Programme → List ℕ → List ℕ → Said → List ℕ → Type 0
-FindSays a P q y said y' = (r : Found) × Finds a P q y r y' × (found_said r ≡ said)
+FindSays a P q y said y' = (r : Result ℕ Refusal) × Finds a P q y r y' × (found_said r ≡ said)
 
 abbrev pub VariablesSay : Alphabet → Programme → List ℕ → ℕ → List ℕ → Said → List ℕ → Type 0
-VariablesSay a P q p y said y' = (r : Bound) × Binds a P q p y r y' × (bound_said r ≡ said)
+VariablesSay a P q p y said y' = (r : Result Bool Refusal) × Binds a P q p y r y' × (bound_said r ≡ said)
 
 abbrev pub SheetSays : Alphabet → Programme → (qs ls y z : List ℕ) → Said → (y' z' : List ℕ) → Type 0
-SheetSays a P qs ls y z said y' z' = (r : SheetFound) × SheetAnswers a P qs ls y z r y' z' × (sheet_said r ≡ said)
+SheetSays a P qs ls y z said y' z' = (r : Result (ℕ × ℕ) Refusal) × SheetAnswers a P qs ls y z r y' z' × (sheet_said r ≡ said)
 
 abbrev pub ReplaceSays : Alphabet → Programme → ℕ → List ℕ → ℕ → Said → Programme → Type 0
-ReplaceSays a P n v p said P' = (r : Replaced) × Replacement a P n v p r P' × (replaced_said r ≡ said)
+ReplaceSays a P n v p said P' = (r : Result (ℕ × ℤ) Refusal) × Replacement a P n v p r P' × (replaced_said r ≡ said)
 
 abbrev pub ReadSays : List ℕ → List Entry → Said → List Entry → Type 0
-ReadSays f es said es' = (r : Opened) × Reads f es r es' × (opened_said r ≡ said)
+ReadSays f es said es' = (r : Result Opened Refusal) × Reads f es r es' × (opened_said r ≡ said)
 
 abbrev pub RowSays : List ℕ → Entry → List ℕ → Said → List ℕ → Type 0
-RowSays f e b said b' = (r : Taken) × Takes (row_check f e (length b)) (row_in f e) b r b' × (taken_said r ≡ said)
+RowSays f e b said b' = (r : Result ℕ Refusal) × Takes (row_check f e (length b)) (row_in f e) b r b' × (taken_said r ≡ said)
 
 abbrev pub WriteSays : (A ns ls w b : List ℕ) → Said → List ℕ → Type 0
-WriteSays A ns ls w b said b' = (r : Filed) × Writes A ns ls w b r b' × (filed_said r ≡ said)
+WriteSays A ns ls w b said b' = (r : Result ℕ Refusal) × Writes A ns ls w b r b' × (filed_said r ≡ said)
 
 -- a write that refuses so, with the number of the programme beside it, and leaves the file as it was
 abbrev pub WriteRefuses : (A ns ls w b : List ℕ) → Said → ℕ → Type 0
-WriteRefuses A ns ls w b said n = (x : Refusal) × Writes A ns ls w b (Unfiled x) b × (filed_said (Unfiled x) ≡ said) × (programmeBeside x ≡ n)
+WriteRefuses A ns ls w b said n = (x : Refusal) × Writes A ns ls w b (Err x) b × (filed_said (Err x) ≡ said) × (programmeBeside x ≡ n)
 
 abbrev pub BarsReadSays : (A v w : List ℕ) → Said → List ℕ → Type 0
-BarsReadSays A v w said w' = (r : BarsRead) × ReadsBars A v w r w' × (bars_read_said r ≡ said)
+BarsReadSays A v w said w' = (r : Result ℕ Refusal) × ReadsBars A v w r w' × (bars_read_said r ≡ said)
 
 abbrev pub BarsWriteSays : (A w b : List ℕ) → Said → List ℕ → Type 0
-BarsWriteSays A w b said b' = (r : BarsWritten) × WritesBars A w b r b' × (bars_written_said r ≡ said)
+BarsWriteSays A w b said b' = (r : Result ℕ Refusal) × WritesBars A w b r b' × (bars_written_said r ≡ said)
 
 -- alphabet A and row T, T's table, and the same with entry 4 set to 5; T's classes, and the same with class 6 set to 6
 abbrev pub A : Alphabet

@@ -1,5 +1,6 @@
 -- The table of refusals, as specs/Table states it, with its proof. A law over parameters serves all lines of one kind.
 -- Assumes nothing.
+use Rattle.std.specs.Prelude.{Result, Ok, Err, ⊤}
 use Prim.Native.Nat.{ℕ, zero, suc, ◌+◌, ◌≤◌, ◌<◌, min}
 use mathlib.Core.Path.{◌≡◌, refl, sym, ap, ◌∙◌, subst}
 use mathlib.Core.List.{List, [], ◌∷◌}
@@ -19,8 +20,6 @@ use Rattle.rows.specs.Row.{pick, symbol, allowed, sized, verdict, or_else, readi
 use Rattle.rows.specs.Refusals.{◌then◌, refuse_if, alphabet_size, arities_fit, some_leaf, as_kept, as_pattern, as_replacement, sizes, symbols, differs, fresh, classed, pattern, sheet_size, sheet_sum, replacement, position, grown, output}
 use Rattle.rows.specs.declared.Fault.{Fault}
 use Rattle.rows.specs.declared.Fault.TheVariants.{Empty, Long, Stray, Early, Extra}
-use Rattle.rows.specs.declared.Verdict.{Verdict}
-use Rattle.rows.specs.declared.Verdict.TheVariants.{Whole, Faulty}
 use Rattle.rows.specs.declared.Leaves.{Leaves}
 use Rattle.rows.specs.declared.Leaves.TheVariants.{Symbols, Blanks}
 use Rattle.rows.specs.declared.Arities.TheVariants.{Count, Over, NoLeaf}
@@ -28,8 +27,6 @@ use Rattle.rows.specs.declared.Kept.{Kept}
 use Rattle.rows.specs.declared.Kept.TheVariants.{Misread, Short, Stale, Misclassed}
 use Rattle.rows.specs.declared.Refusal.{Refusal}
 use Rattle.rows.specs.declared.Refusal.TheVariants.{Arities, Row, OnRecord, Position, TooLong, OutputShort, SheetSize, SheetSum}
-use Rattle.rows.specs.declared.Check.{Check}
-use Rattle.rows.specs.declared.Check.TheVariants.{Fine, Refused}
 use Rattle.rows.proofs.Entry.{length-table}
 use Rattle.rows.proofs.Classes.{class_of_row}
 use Rattle.rows.proofs.Passing.{below, clash, row_fine}
@@ -41,18 +38,18 @@ use Rattle.refusal_numbers.proofs.Reading.{Says, told, stray, early, extra}
 -- ---- checks
 
 -- a check refuses with the number and the place of the refusal that it gives
-is_refused : (c : Check) (x : Refusal) (k q : ℕ) → c ≡ Refused x → k ≡ number x → q ≡ place x → Refuses c k q
-is_refused c x k q e m p = subst (λ (d : Check). Refuses d k q) (sym e) (m, p)
+is_refused : (c : Result ⊤ Refusal) (x : Refusal) (k q : ℕ) → c ≡ Err x → k ≡ number x → q ≡ place x → Refuses c k q
+is_refused c x k q e m p = subst (λ (d : Result ⊤ Refusal). Refuses d k q) (sym e) (m, p)
 
-order : (a b : Check) (k q : ℕ) → Refuses (a then b) k q ↔ (Refuses a k q ⊎ ((a ≡ Fine) × Refuses b k q))
-order Fine b k q = (λ h. inr (refl, h), λ s. ⊎_elim (λ h. absurd h) (λ h. h.1) s)
-order (Refused x) b k q = (λ h. inl h, λ s. ⊎_elim (λ h. h) (λ h. absurd (clash (Refused x) x h.0 refl)) s)
+order : (a b : Result ⊤ Refusal) (k q : ℕ) → Refuses (a then b) k q ↔ (Refuses a k q ⊎ ((a ≡ Ok tt) × Refuses b k q))
+order (Ok _) b k q = (λ h. inr (refl, h), λ s. ⊎_elim (λ h. absurd h) (λ h. h.1) s)
+order (Err x) b k q = (λ h. inl h, λ s. ⊎_elim (λ h. h) (λ h. absurd (clash (Err x) x h.0 refl)) s)
 
 -- a check of one test refuses exactly if what is tested holds
 pub test : (b : Bool) (x : Refusal) (P : Type 0) (k q : ℕ) → (b ≡ true → P) → (P → b ≡ true)
     → Refuses (refuse_if b x) k q ↔ ((k ≡ number x) × (q ≡ place x) × P)
 test true x P k q to from = (λ h. (h.0, h.1, to refl), λ h. (h.0, h.1))
-test false x P k q to from = (λ h. absurd h, λ h. (let e = from h.2 in let z : ◌≡◌ {A = ℕ} 0 1 = cc in absurd (omega arith)))
+test false x P k q to from = (λ h. absurd h, λ h. (let e = from h.2 in cc))
 
 -- there are none, or more than the most
 count_wrong : (x : Refusal) (most n k q : ℕ)
@@ -81,7 +78,7 @@ unfolding sheet_sum
 sheet-sum ls m k q = go (eqb (begin_of ls (length ls)) m) refl
   where
     go : (b : Bool) → eqb (begin_of ls (length ls)) m ≡ b
-        → Refuses (pick b Fine (Refused (SheetSum m))) k q ↔ ((k ≡ 64) × (q ≡ m) × (begin_of ls (length ls) ≡ m → ⊥))
+        → Refuses (pick b (Ok tt) (Err (SheetSum m))) k q ↔ ((k ≡ 64) × (q ≡ m) × (begin_of ls (length ls) ≡ m → ⊥))
     go true e = (λ h. absurd h, λ h. absurd (h.2 (eqb-true (begin_of ls (length ls)) m e)))
     go false e = (λ h. (h.0, h.1, eqb-false (begin_of ls (length ls)) m e), λ h. (h.0, h.1))
 
@@ -105,16 +102,16 @@ output-short n m k q = test (ltb m n) (OutputShort n) (m < n) k q (ltb-true m n)
 
 -- ---- the arities
 
-arity_from : (l : List ℕ) (at s : ℕ) → FirstOver l s → arities_fit at l ≡ Refused (Arities (Over (at + s)))
+arity_from : (l : List ℕ) (at s : ℕ) → FirstOver l s → arities_fit at l ≡ Err (Arities (Over (at + s)))
 unfolding arities_fit
 arity_from [] at s f = absurd (omega (arith, f.within))
-arity_from (a ∷ l) at zero f = rw (lt-ltb 15 a f.over) (ap (λ (k : ℕ). Refused (Arities (Over k))) (sym (add-zero at)))
+arity_from (a ∷ l) at zero f = rw (lt-ltb 15 a f.over) (ap (λ (k : ℕ). Err (Arities (Over k))) (sym (add-zero at)))
 arity_from (a ∷ l) at (suc s) f =
     let small : a ≤ 15 = f.before 0 (omega arith) in
     let up : at + 1 + s ≡ at + suc s = omega arith in
     rw (le-ltb 15 a small)
     (arity_from l (at + 1) s (record { within = omega (arith, f.within); over = f.over; before = λ k h. f.before (suc k) (omega arith) })
-    ∙ ap (λ (k : ℕ). Refused (Arities (Over k))) up)
+    ∙ ap (λ (k : ℕ). Err (Arities (Over k))) up)
 
 arity_to : (l : List ℕ) (at k q : ℕ) → Refuses (arities_fit at l) k q → (s : ℕ) × (k ≡ 2) × (q ≡ at + s) × FirstOver l s
 unfolding arities_fit
@@ -125,7 +122,7 @@ arity_to (a ∷ l) at k q h = go (ltb 15 a) refl h (arity_to l (at + 1) k q)
     small h f zero i = h
     small h f (suc k) i = f.before k (omega arith)
 
-    go : (b : Bool) → ltb 15 a ≡ b → Refuses (pick b (Refused (Arities (Over at))) (arities_fit (at + 1) l)) k q
+    go : (b : Bool) → ltb 15 a ≡ b → Refuses (pick b (Err (Arities (Over at))) (arities_fit (at + 1) l)) k q
         → (Refuses (arities_fit (at + 1) l) k q → (s : ℕ) × (k ≡ 2) × (q ≡ at + 1 + s) × FirstOver l s)
         → (s : ℕ) × (k ≡ 2) × (q ≡ at + s) × FirstOver (a ∷ l) s
     go true e h later =
@@ -149,7 +146,7 @@ unfolding some_leaf
 no_leaf_to [] k q h = (h.0, h.1, λ s i. absurd (omega arith))
 no_leaf_to (a ∷ l) k q h = go (eqb a 0) refl h (no_leaf_to l k q)
   where
-    go : (b : Bool) → eqb a 0 ≡ b → Refuses (pick b Fine (some_leaf l)) k q
+    go : (b : Bool) → eqb a 0 ≡ b → Refuses (pick b (Ok tt) (some_leaf l)) k q
         → (Refuses (some_leaf l) k q → (k ≡ 3) × (q ≡ 0) × ((s : ℕ) → s < length l → get_or l s 0 ≡ 0 → ⊥))
         → (k ≡ 3) × (q ≡ 0) × ((s : ℕ) → s < length (a ∷ l) → get_or (a ∷ l) s 0 ≡ 0 → ⊥)
     go true e h later = absurd h
@@ -159,7 +156,7 @@ no_leaf_to (a ∷ l) k q h = go (eqb a 0) refl h (no_leaf_to l k q)
         at zero i z = eqb-false a 0 e z
         at (suc s) i z = (later h).2 s (omega arith) z
 
-no_leaf_from : (l : List ℕ) → ((s : ℕ) → s < length l → get_or l s 0 ≡ 0 → ⊥) → some_leaf l ≡ Refused (Arities NoLeaf)
+no_leaf_from : (l : List ℕ) → ((s : ℕ) → s < length l → get_or l s 0 ≡ 0 → ⊥) → some_leaf l ≡ Err (Arities NoLeaf)
 unfolding some_leaf
 no_leaf_from [] f = refl
 no_leaf_from (a ∷ l) f = rw (ne_eqb a 0 (f 0 (omega arith))) (no_leaf_from l (λ s h. f (suc s) (omega arith)))
@@ -170,9 +167,9 @@ no_leaf A k q = (no_leaf_to A k q, λ h. is_refused (some_leaf A) (Arities NoLea
 -- ---- lists that should be a tree's
 
 -- the verdict finds a fault, with the number that `of` gives it
-abbrev Finds : (Fault → ℕ) → Verdict → ℕ → ℕ → Type 0
-Finds of Whole k q = ⊥
-Finds of (Faulty f) k q = (k ≡ of f) × (q ≡ fault_place f)
+abbrev Finds : (Fault → ℕ) → Result ⊤ Fault → ℕ → ℕ → Type 0
+Finds of (Ok _) k q = ⊥
+Finds of (Err f) k q = (k ≡ of f) × (q ≡ fault_place f)
 
 module _ (of : Fault → ℕ) (k q : ℕ) where
   sized_finds : (n most : ℕ) → Finds of (sized n most) k q ↔ WrongLength (of Empty) (of (Long n)) n most k q
@@ -180,7 +177,7 @@ module _ (of : Fault → ℕ) (k q : ℕ) where
   sized_finds n most = go (ltb n 1) (ltb most n) refl refl
     where
       go : (a b : Bool) → ltb n 1 ≡ a → ltb most n ≡ b
-          → Finds of (pick a (Faulty Empty) (pick b (Faulty (Long n)) Whole)) k q ↔ WrongLength (of Empty) (of (Long n)) n most k q
+          → Finds of (pick a (Err Empty) (pick b (Err (Long n)) (Ok tt))) k q ↔ WrongLength (of Empty) (of (Long n)) n most k q
       go true b e d =
           let h = ltb-true n 1 e in
           (λ x. inl (x.0, x.1, omega arith), λ s. ⊎_elim (λ x. (x.0, x.1)) (λ x. absurd (omega (arith, x.2))) s)
@@ -196,36 +193,36 @@ module _ (of : Fault → ℕ) (k q : ℕ) where
       → Finds of (verdict A ok 1 0 w) k q ↔ NotOneTree (of (Stray q)) (of (Early q)) (of (Extra q)) A ok w k q
   verdict_finds A ok w = (λ h. to (verdict A ok 1 0 w) refl h, from)
     where
-      at : (f : ℕ → Fault) (p : ℕ) → q ≡ p → verdict A ok 1 0 w ≡ Faulty (f p) → verdict A ok 1 0 w ≡ Faulty (f q)
-      at f p s e = e ∙ ap (λ (j : ℕ). Faulty (f j)) (sym s)
+      at : (f : ℕ → Fault) (p : ℕ) → q ≡ p → verdict A ok 1 0 w ≡ Err (f p) → verdict A ok 1 0 w ≡ Err (f q)
+      at f p s e = e ∙ ap (λ (j : ℕ). Err (f j)) (sym s)
 
-      to : (v : Verdict) → verdict A ok 1 0 w ≡ v → Finds of v k q → NotOneTree (of (Stray q)) (of (Early q)) (of (Extra q)) A ok w k q
-      to Whole e h = absurd h
-      to (Faulty Empty) e h = absurd (subst (Says A ok 1 0 w) e (told A ok w 1 0))
-      to (Faulty (Long n)) e h = absurd (subst (Says A ok 1 0 w) e (told A ok w 1 0))
-      to (Faulty (Stray p)) e h =
+      to : (v : Result ⊤ Fault) → verdict A ok 1 0 w ≡ v → Finds of v k q → NotOneTree (of (Stray q)) (of (Early q)) (of (Extra q)) A ok w k q
+      to (Ok _) e h = absurd h
+      to (Err Empty) e h = absurd (subst (Says A ok 1 0 w) e (told A ok w 1 0))
+      to (Err (Long n)) e h = absurd (subst (Says A ok 1 0 w) e (told A ok w 1 0))
+      to (Err (Stray p)) e h =
           let x = (stray A ok w q).0 (at Stray p h.1 e) in
           inl (h.0 ∙ ap (λ (j : ℕ). of (Stray j)) (sym h.1), x.0, x.1, x.2)
-      to (Faulty (Early p)) e h =
+      to (Err (Early p)) e h =
           let x = (early A ok w q).0 (at Early p h.1 e) in
           inr (inl (h.0 ∙ ap (λ (j : ℕ). of (Early j)) (sym h.1), x.0, x.1))
-      to (Faulty (Extra p)) e h =
+      to (Err (Extra p)) e h =
           let x = (extra A ok w q).0 (at Extra p h.1 e) in
           inr (inr (h.0 ∙ ap (λ (j : ℕ). of (Extra j)) (sym h.1), x.0, x.1))
 
-      found : (f : Fault) → verdict A ok 1 0 w ≡ Faulty f → k ≡ of f → q ≡ fault_place f → Finds of (verdict A ok 1 0 w) k q
-      found f e m p = subst (λ (v : Verdict). Finds of v k q) (sym e) (m, p)
+      found : (f : Fault) → verdict A ok 1 0 w ≡ Err f → k ≡ of f → q ≡ fault_place f → Finds of (verdict A ok 1 0 w) k q
+      found f e m p = subst (λ (v : Result ⊤ Fault). Finds of v k q) (sym e) (m, p)
 
       from : NotOneTree (of (Stray q)) (of (Early q)) (of (Extra q)) A ok w k q → Finds of (verdict A ok 1 0 w) k q
       from (inl x) = found (Stray q) ((stray A ok w q).1 (x.1, x.2, x.3)) x.0 refl
       from (inr (inl x)) = found (Early q) ((early A ok w q).1 (x.1, x.2)) x.0 refl
       from (inr (inr x)) = found (Extra q) ((extra A ok w q).1 (x.1, x.2)) x.0 refl
 
-  either_finds : (a b : Verdict) → Finds of (or_else a b) k q ↔ (Finds of a k q ⊎ ((a ≡ Whole) × Finds of b k q))
-  either_finds Whole b = (λ h. inr (refl, h), λ s. ⊎_elim (λ h. absurd h) (λ h. h.1) s)
-  either_finds (Faulty f) b = (
+  either_finds : (a b : Result ⊤ Fault) → Finds of (or_else a b) k q ↔ (Finds of a k q ⊎ ((a ≡ Ok tt) × Finds of b k q))
+  either_finds (Ok _) b = (λ h. inr (refl, h), λ s. ⊎_elim (λ h. absurd h) (λ h. h.1) s)
+  either_finds (Err f) b = (
     λ h. inl h,
-    λ s. ⊎_elim (λ h. h) (λ h. (let e = h.0 in let z : ◌≡◌ {A = ℕ} 0 1 = cc in absurd (omega arith))) s,
+    λ s. ⊎_elim (λ h. h) (λ h. (let e = h.0 in cc)) s,
   )
 
   reading_finds : (A : List ℕ) (leaves : Leaves) (most : ℕ) (w : List ℕ)
@@ -250,13 +247,13 @@ module _ (of : Fault → ℕ) (k q : ℕ) where
       )
 
 -- a verdict on a pattern, on a replacement, as a check
-pattern_finds : (v : Verdict) (k q : ℕ) → Refuses (as_pattern v) k q ↔ Finds pattern_number v k q
-pattern_finds Whole k q = Iff.rfl
-pattern_finds (Faulty f) k q = Iff.rfl
+pattern_finds : (v : Result ⊤ Fault) (k q : ℕ) → Refuses (as_pattern v) k q ↔ Finds pattern_number v k q
+pattern_finds (Ok _) k q = Iff.rfl
+pattern_finds (Err f) k q = Iff.rfl
 
-replacement_finds : (v : Verdict) (k q : ℕ) → Refuses (as_replacement v) k q ↔ Finds replacement_number v k q
-replacement_finds Whole k q = Iff.rfl
-replacement_finds (Faulty f) k q = Iff.rfl
+replacement_finds : (v : Result ⊤ Fault) (k q : ℕ) → Refuses (as_replacement v) k q ↔ Finds replacement_number v k q
+replacement_finds (Ok _) k q = Iff.rfl
+replacement_finds (Err f) k q = Iff.rfl
 
 pattern_wrong : (A w : List ℕ) (k q : ℕ) → Refuses (pattern A w) k q ↔ WrongList 11 12 13 14 15 256 A (allowed Blanks A) w k q
 unfolding pattern
@@ -300,19 +297,19 @@ other_first right l n k h d =
 -- What is refused for a place where the lists differ: `of` gives its number.
 module _ (wrong : ℕ → Refusal) (of : ℕ → ℕ) (numbers : (p : ℕ) → number (wrong p) ≡ of p) (places : (p : ℕ) → place (wrong p) ≡ p) where
   -- the check names the first such place
-  differs-first : (l t : List ℕ) (at p : ℕ) → length l ≤ length t → p < length l → OtherAt l t p → differs wrong at l t ≡ Refused (wrong (at + p))
+  differs-first : (l t : List ℕ) (at p : ℕ) → length l ≤ length t → p < length l → OtherAt l t p → differs wrong at l t ≡ Err (wrong (at + p))
   unfolding differs
   differs-first [] t at p long h d = absurd (omega arith)
   differs-first (x ∷ l) [] at p long h d = absurd (omega arith)
-  differs-first (x ∷ l) (y ∷ t) at zero long h d = rw (ne_eqb y x d.0) (ap (λ (k : ℕ). Refused (wrong k)) (sym (add-zero at)))
+  differs-first (x ∷ l) (y ∷ t) at zero long h d = rw (ne_eqb y x d.0) (ap (λ (k : ℕ). Err (wrong k)) (sym (add-zero at)))
   differs-first (x ∷ l) (y ∷ t) at (suc p) long h d =
       let same : y ≡ x = d.1 0 (omega arith) in
       let up : at + 1 + p ≡ at + suc p = omega arith in
       rw (eq-eqb y x same)
-      (differs-first l t (at + 1) p (omega arith) (omega arith) (d.0, λ k i. d.1 (suc k) (omega arith)) ∙ ap (λ (k : ℕ). Refused (wrong k)) up)
+      (differs-first l t (at + 1) p (omega arith) (omega arith) (d.0, λ k i. d.1 (suc k) (omega arith)) ∙ ap (λ (k : ℕ). Err (wrong k)) up)
 
   -- it is fine with the same lists
-  differs_none : (l t : List ℕ) (at : ℕ) → length l ≤ length t → ((k : ℕ) → k < length l → get_or t k 0 ≡ get_or l k 0) → differs wrong at l t ≡ Fine
+  differs_none : (l t : List ℕ) (at : ℕ) → length l ≤ length t → ((k : ℕ) → k < length l → get_or t k 0 ≡ get_or l k 0) → differs wrong at l t ≡ Ok tt
   unfolding differs
   differs_none [] t at long same = refl
   differs_none (x ∷ l) [] at long same = absurd (omega arith)
@@ -324,19 +321,19 @@ module _ (wrong : ℕ → Refusal) (of : ℕ → ℕ) (numbers : (p : ℕ) → n
       → Refuses (differs wrong 0 l t) k q ↔ ((k ≡ of q) × FirstOther l t n q)
   differs_wrong l t n size long k q = (to, λ h. from h.0 h.1)
     where
-      named : (p : ℕ) → p < n → OtherAt l t p → differs wrong 0 l t ≡ Refused (wrong p)
-      named p h d = differs-first l t 0 p (omega arith) (omega arith) d ∙ ap (λ (j : ℕ). Refused (wrong j)) (zero-add p)
+      named : (p : ℕ) → p < n → OtherAt l t p → differs wrong 0 l t ≡ Err (wrong p)
+      named p h d = differs-first l t 0 p (omega arith) (omega arith) d ∙ ap (λ (j : ℕ). Err (wrong j)) (zero-add p)
 
       from : k ≡ of q → FirstOther l t n q → Refuses (differs wrong 0 l t) k q
       from e f =
           is_refused (differs wrong 0 l t) (wrong q) k q (named q f.within (f.differs, f.before)) (e ∙ sym (numbers q)) (sym (places q))
 
-      none : ((j : ℕ) → j < n → get_or t j 0 ≡ get_or l j 0) → differs wrong 0 l t ≡ Fine
+      none : ((j : ℕ) → j < n → get_or t j 0 ≡ get_or l j 0) → differs wrong 0 l t ≡ Ok tt
       none same = differs_none l t 0 (omega arith) (λ j i. same j (omega arith))
 
       first : (p : ℕ) → p < n → OtherAt l t p → Refuses (differs wrong 0 l t) k q → (k ≡ of q) × FirstOther l t n q
       first p h d r =
-          let x : Refuses (Refused (wrong p)) k q = subst (λ (c : Check). Refuses c k q) (named p h d) r in
+          let x : Refuses (Err (wrong p)) k q = subst (λ (c : Result ⊤ Refusal). Refuses c k q) (named p h d) r in
           let there : p ≡ q = sym (x.1 ∙ places p) in
           let here : FirstOther l t n p = record { within = h; differs = d.0; before = d.1 } in
           (x.0 ∙ numbers p ∙ ap of there, subst (FirstOther l t n) there here)
@@ -344,15 +341,15 @@ module _ (wrong : ℕ → Refusal) (of : ℕ → ℕ) (numbers : (p : ℕ) → n
       to : Refuses (differs wrong 0 l t) k q → (k ≡ of q) × FirstOther l t n q
       to r =
           ⊎_elim
-          (λ same. absurd (subst (λ (c : Check). Refuses c k q) (none same) r))
+          (λ same. absurd (subst (λ (c : Result ⊤ Refusal). Refuses c k q) (none same) r))
           (λ s. first s.0 s.1 s.2 r)
           (other_or_same l t n)
 
 -- `whose` fault it is: `of` gives its number
 module _ (whose : Kept → Refusal) (of : Kept → ℕ) (numbers : (x : Kept) → number (whose x) ≡ of x) (places : (x : Kept) → place (whose x) ≡ kept_place x) where
-  kept_finds : (v : Verdict) (k q : ℕ) → Refuses (as_kept whose v) k q ↔ Finds (λ f. of (Misread f)) v k q
-  kept_finds Whole k q = Iff.rfl
-  kept_finds (Faulty f) k q = (
+  kept_finds : (v : Result ⊤ Fault) (k q : ℕ) → Refuses (as_kept whose v) k q ↔ Finds (λ f. of (Misread f)) v k q
+  kept_finds (Ok _) k q = Iff.rfl
+  kept_finds (Err f) k q = (
     λ h. (h.0 ∙ numbers (Misread f), h.1 ∙ places (Misread f)),
     λ h. (h.0 ∙ sym (numbers (Misread f)), h.1 ∙ sym (places (Misread f))),
   )
@@ -369,7 +366,7 @@ module _ (whose : Kept → Refusal) (of : Kept → ℕ) (numbers : (x : Kept) �
       short : Refuses (refuse_if (ltb m n) (whose (Short n))) k q ↔ ((k ≡ number (whose (Short n))) × (q ≡ place (whose (Short n))) × (m < n))
       short = test (ltb m n) (whose (Short n)) (m < n) k q (ltb-true m n) (lt-ltb m n)
 
-      short_to : as_kept whose (sized n 16384) ≡ Fine → Refuses (refuse_if (ltb m n) (whose (Short n))) k q
+      short_to : as_kept whose (sized n 16384) ≡ Ok tt → Refuses (refuse_if (ltb m n) (whose (Short n))) k q
           → (k ≡ of (Short n)) × (q ≡ n) × (0 < n) × (n ≤ 16384) × (m < n)
       short_to e h =
           let fits = sized_fits n 16384 (row_fine whose (sized n 16384) e) in
@@ -377,7 +374,7 @@ module _ (whose : Kept → Refusal) (of : Kept → ℕ) (numbers : (x : Kept) �
           (x.0 ∙ numbers (Short n), x.1 ∙ places (Short n), fits.0, fits.1, x.2)
 
       short_from : (k ≡ of (Short n)) × (q ≡ n) × (0 < n) × (n ≤ 16384) × (m < n)
-          → (as_kept whose (sized n 16384) ≡ Fine) × Refuses (refuse_if (ltb m n) (whose (Short n))) k q
+          → (as_kept whose (sized n 16384) ≡ Ok tt) × Refuses (refuse_if (ltb m n) (whose (Short n))) k q
       short_from x = (
         ap (as_kept whose) (sized_whole n 16384 x.2 x.3),
         short.1 (x.0 ∙ sym (numbers (Short n)), x.1 ∙ sym (places (Short n)), x.4),

@@ -1,6 +1,6 @@
 -- The table of refusals of docs/SCOPE.md, line by line: each check that the calls make refuses exactly when the table says so, with
 -- the number and the place that stand there. Proved in proofs/Table.
-use Rattle.std.specs.Prelude.{ℕ, ◌<◌, ◌≤◌, ◌≡◌, List, Bool, false, ◌↔◌, ◌⊎◌, T, length, get_or, take}
+use Rattle.std.specs.Prelude.{ℕ, ◌<◌, ◌≤◌, ◌≡◌, List, Bool, false, ◌↔◌, ◌⊎◌, T, length, get_or, take, Result, Ok, Err, ⊤}
 use Rattle.rows.specs.Limits.{row_most}
 use Rattle.rows.specs.Tree.{IsRow}
 use Rattle.rows.specs.Parse.{table}
@@ -11,14 +11,13 @@ use Rattle.rows.specs.Refusals.{◌then◌, alphabet_size, arities_fit, some_lea
 use Rattle.rows.specs.declared.Leaves.TheVariants.{Symbols, Blanks}
 use Rattle.rows.specs.declared.Text.TheVariants.{Line, Bytes}
 use Rattle.rows.specs.declared.Refusal.TheVariants.{Row, OnRecord, Input}
-use Rattle.rows.specs.declared.Check.{Check}
-use Rattle.rows.specs.declared.Check.TheVariants.{Fine, Refused}
 use Rattle.refusal_numbers.specs.Numbers.{number, place}
+use Rattle.rows.specs.declared.Refusal.{Refusal}
 
 -- the check refuses, with number k and place q
-abbrev pub Refuses : Check → ℕ → ℕ → Type 0
-Refuses Fine k q = ⊥
-Refuses (Refused x) k q = (k ≡ number x) × (q ≡ place x)
+abbrev pub Refuses : Result ⊤ Refusal → ℕ → ℕ → Type 0
+Refuses (Ok _) k q = ⊥
+Refuses (Err x) k q = (k ≡ number x) × (q ≡ place x)
 
 -- s is the first symbol with an arity over 15
 pub record FirstOver (A : List ℕ) (s : ℕ) : Type 0 where
@@ -112,4 +111,4 @@ pub record Table : Type 0 where
   pub line : (k : ℕ) → (number (Input (Line k)) ≡ 60) × (place (Input (Line k)) ≡ k)
   pub bytes : (number (Input Bytes) ≡ 61) × (place (Input Bytes) ≡ 65536)
   -- the order: of two checks, one after the other, the second refuses only where the first does not
-  pub order : (a b : Check) (k q : ℕ) → Refuses (a then b) k q ↔ (Refuses a k q ⊎ ((a ≡ Fine) × Refuses b k q))
+  pub order : (a b : Result ⊤ Refusal) (k q : ℕ) → Refuses (a then b) k q ↔ (Refuses a k q ⊎ ((a ≡ Ok tt) × Refuses b k q))

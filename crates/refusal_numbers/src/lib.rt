@@ -2,7 +2,7 @@
 #![tactic(auto)]
 
 ghost use Rattle.std.specs.Prelude.{◌≡◌};
-ghost use Rattle.refusal_numbers.specs.Numbers.{alphabet_number, alphabet_place, row_number, pattern_number, replacement_number, fault_place, kept_number, on_record_number, kept_place, text_number, text_place, catalogue_number, catalogue_place, bars_number, bars_place, number, place, programme};
+ghost use Rattle.refusal_numbers.specs.Numbers.{alphabet_number, alphabet_place, fault_number, row_number, fault_place, kept_number, on_record_number, kept_place, text_number, text_place, catalogue_number, catalogue_place, bars_number, bars_place, number, place, programme};
 
 use rows::{Arities, BarsFault, CatalogueFault, Fault, Kept, Refusal, Text};
 
@@ -26,40 +26,30 @@ fn alphabet_place(fault: Arities) -> usize
     }
 }
 
+// Of a fault in the reading of a list, by the numbers of the five.
+fn fault_number(
+    fault: Fault,
+    empty: usize,
+    long: usize,
+    stray: usize,
+    early: usize,
+    extra: usize,
+) -> usize
+    ensures { result ≡ fault_number empty long stray early extra fault }
+{
+    match fault {
+        Fault::Empty => empty,
+        Fault::Long(_) => long,
+        Fault::Stray(_) => stray,
+        Fault::Early(_) => early,
+        Fault::Extra(_) => extra,
+    }
+}
+
 fn row_number(fault: Fault) -> usize
     ensures { result ≡ row_number fault }
 {
-    match fault {
-        Fault::Empty => 4,
-        Fault::Long(_) => 5,
-        Fault::Stray(_) => 7,
-        Fault::Early(_) => 8,
-        Fault::Extra(_) => 9,
-    }
-}
-
-fn pattern_number(fault: Fault) -> usize
-    ensures { result ≡ pattern_number fault }
-{
-    match fault {
-        Fault::Empty => 11,
-        Fault::Long(_) => 12,
-        Fault::Stray(_) => 13,
-        Fault::Early(_) => 14,
-        Fault::Extra(_) => 15,
-    }
-}
-
-fn replacement_number(fault: Fault) -> usize
-    ensures { result ≡ replacement_number fault }
-{
-    match fault {
-        Fault::Empty => 24,
-        Fault::Long(_) => 25,
-        Fault::Stray(_) => 27,
-        Fault::Early(_) => 28,
-        Fault::Extra(_) => 29,
-    }
+    fault_number(fault, 4, 5, 7, 8, 9)
 }
 
 fn fault_place(fault: Fault) -> usize
@@ -86,6 +76,7 @@ fn kept_number(fault: Kept) -> usize
 }
 
 // Of the row on record: 40 more.
+#[tactic(auto, unfolding(crate::specs::Numbers::on_record_number))]
 fn on_record_number(fault: Kept) -> usize
     ensures { result ≡ on_record_number fault }
 {
@@ -175,8 +166,8 @@ pub fn number_of(refusal: Refusal) -> usize
         Refusal::Arities(f) => alphabet_number(f),
         Refusal::Row(k) => kept_number(k),
         Refusal::OnRecord(k) => on_record_number(k),
-        Refusal::Pattern(f) => pattern_number(f),
-        Refusal::Replacement(f) => replacement_number(f),
+        Refusal::Pattern(f) => fault_number(f, 11, 12, 13, 14, 15),
+        Refusal::Replacement(f) => fault_number(f, 24, 25, 27, 28, 29),
         Refusal::Position(_) => 17,
         Refusal::TooLong(_) => 18,
         Refusal::OutputShort(_) => 19,

@@ -1,5 +1,6 @@
 -- The forest that a list spells from a position on, and its ends: the law by which a table is read from right to left.
 -- Assumes nothing.
+use Rattle.std.specs.Prelude.{Ok}
 use Prim.Native.Nat.{ℕ, ◌+◌, ◌-◌, ◌≤◌, ◌<◌}
 use mathlib.Core.Path.{◌≡◌, sym, ap, ap₂, ◌∙◌}
 use mathlib.Core.List.{List, ◌∷◌, ◌++◌}
@@ -9,7 +10,6 @@ use lib.ListN.{length, get_or, drop, length-drop}
 use Rattle.rows.specs.Tree.{Forest, count, size, ends}
 use Rattle.rows.specs.Parse.{first, rest, over, parse, behind}
 use Rattle.rows.specs.Row.{verdict}
-use Rattle.rows.specs.declared.Verdict.TheVariants.{Whole}
 use Rattle.rows.proofs.Tree.{ends-beside, split, count-rest, count-size}
 use Rattle.rows.proofs.Parse.{size-parse}
 use Rattle.rows.proofs.Scan.{drop_more}
@@ -46,7 +46,7 @@ count-behind A w p h deep =
     omega (arith, ap count (behind-over A w p h), count-rest (get_or A (get_or w p 0) 0) (behind A w (p + 1)) deep)
 
 -- in an accepted list as many trees stand behind a symbol as its arity says
-pub enough_behind : (A : List ℕ) (ok : ℕ → Bool) (w : List ℕ) (k at : ℕ) → verdict A ok k at w ≡ Whole
+pub enough_behind : (A : List ℕ) (ok : ℕ → Bool) (w : List ℕ) (k at : ℕ) → verdict A ok k at w ≡ Ok tt
     → (p : ℕ) → p < length w → get_or A (get_or w p 0) 0 ≤ count (behind A w (p + 1))
 unfolding behind
 enough_behind A ok w k at e p h = (enough A ok w k at e p h).1

@@ -1,6 +1,7 @@
 -- One entry of the table of an accepted row: where it lies, that the symbols up to it are a row, and that no other
 -- position has that property.
 -- Assumes nothing.
+use Rattle.std.specs.Prelude.{Ok}
 use Prim.Native.Nat.{ℕ, zero, suc, ◌+◌, ◌-◌, ◌≤◌, ◌<◌}
 use mathlib.Core.Path.{◌≡◌, refl, sym, ap, ap₂, ◌∙◌, subst}
 use mathlib.Core.List.{List, ◌∷◌, ◌++◌, append-nil}
@@ -14,7 +15,6 @@ use lib.Seq.{get_or-drop, drop-drop, take_at, take-add, length-take-le}
 use Rattle.rows.specs.Tree.{Forest, Forest.none, Forest.grow, IsRow, count, size, prefix, Ranked, ends}
 use Rattle.rows.specs.Parse.{first, over, parse, table, behind}
 use Rattle.rows.specs.Row.{verdict}
-use Rattle.rows.specs.declared.Verdict.TheVariants.{Whole}
 use Rattle.rows.proofs.Tree.{length-ends, length-prefix, size_split}
 use Rattle.rows.proofs.Parse.{prefix-parse, size-parse, no_longer}
 use Rattle.rows.proofs.Accept.{whole_drop, ranked_parse}
@@ -81,7 +81,7 @@ head_row A ok (grow s cs f) h r =
     }
 
 -- the symbols from p up to the entry at p are a row
-pub entry_row : (A : List ℕ) (ok : ℕ → Bool) (w : List ℕ) (k at : ℕ) → verdict A ok k at w ≡ Whole → (p : ℕ) → p < length w
+pub entry_row : (A : List ℕ) (ok : ℕ → Bool) (w : List ℕ) (k at : ℕ) → verdict A ok k at w ≡ Ok tt → (p : ℕ) → p < length w
     → IsRow A ok (take (get_or (table A w) p 0 - p) (drop p w))
 unfolding behind
 entry_row A ok w k at e p h =
@@ -100,7 +100,7 @@ same_end A ok ok' l i j h m r q =
     omega (arith, length-take-le (j - i) (drop i l) more)
 
 -- and no other position ends a row that starts at p: the entry is the first (and only) place where the open count of p's subtree falls to nothing
-pub entry_only : (A : List ℕ) (ok ok' : ℕ → Bool) (w : List ℕ) (k at : ℕ) → verdict A ok k at w ≡ Whole → (p e : ℕ) → p < length w → p ≤ e → e ≤ length w
+pub entry_only : (A : List ℕ) (ok ok' : ℕ → Bool) (w : List ℕ) (k at : ℕ) → verdict A ok k at w ≡ Ok tt → (p e : ℕ) → p < length w → p ≤ e → e ≤ length w
     → IsRow A ok' (take (e - p) (drop p w)) → e ≡ get_or (table A w) p 0
 entry_only A ok ok' w k at acc p e h lo hi r = go (dec_le (e - p) (t - p))
   where

@@ -1,6 +1,8 @@
 pub mod Tree
 pub mod Parse
 pub mod Scan
+pub mod Bytes
+pub mod Stretches
 pub mod Accept
 pub mod Checksum
 pub mod Behind

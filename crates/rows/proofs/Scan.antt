@@ -1,7 +1,9 @@
 -- What a check that reads a list from left to right says at position i, from the element there: the step of each loop.
 -- Assumes nothing.
+use Rattle.std.specs.Prelude.{Result, Ok, Err, ⊤}
+use Rattle.std.specs.List.{list_any}
 use Prim.Native.Nat.{ℕ, zero, suc, ◌+◌, ◌-◌, ◌≤◌, ◌<◌}
-use mathlib.Core.Path.{◌≡◌, refl, ap, ◌∙◌}
+use mathlib.Core.Path.{◌≡◌, refl, sym, ap, ◌∙◌, subst}
 use mathlib.Core.List.{List, [], ◌∷◌}
 use mathlib.Core.Bool.{Bool, true, false}
 use native.Mathlib.Numerals.{add-one}
@@ -16,19 +18,18 @@ use Rattle.rows.specs.Reading.{ReadTo, BelowTo}
 use Rattle.rows.specs.declared.Leaves.{Leaves}
 use Rattle.rows.specs.declared.Leaves.TheVariants.{Symbols, Blanks}
 use Rattle.rows.specs.Refusals.{arities_fit, some_leaf}
+use Rattle.rows.specs.declared.Fault.{Fault}
 use Rattle.rows.specs.declared.Fault.TheVariants.{Empty, Long, Stray, Early, Extra}
-use Rattle.rows.specs.declared.Verdict.TheVariants.{Whole, Faulty}
 use Rattle.rows.specs.Limits.{arity_most}
-use Rattle.rows.specs.declared.Arities.TheVariants.{Over}
+use Rattle.rows.specs.declared.Arities.TheVariants.{Over, NoLeaf}
 use Rattle.rows.specs.declared.Refusal.TheVariants.{Arities}
-use Rattle.rows.specs.declared.Check.TheVariants.{Fine, Refused}
 
 -- the list from i on is its element there and the list from i + 1 on
 pub drop_more : (l : List ℕ) (i : ℕ) → i < length l → drop i l ≡ get_or l i 0 ∷ drop (i + 1) l
 drop_more l i h = rw add-one (drop-cons l i 0 h)
 
 pub arity_at : (l : List ℕ) (i : ℕ) → i < length l
-    → arities_fit i (drop i l) ≡ pick (ltb arity_most (get_or l i 0)) (Refused (Arities (Over i))) (arities_fit (i + 1) (drop (i + 1) l))
+    → arities_fit i (drop i l) ≡ pick (ltb arity_most (get_or l i 0)) (Err (Arities (Over i))) (arities_fit (i + 1) (drop (i + 1) l))
 unfolding arities_fit
 arity_at l i h = ap (arities_fit i) (drop_more l i h)
 
@@ -40,27 +41,27 @@ arities-behind l (suc n) h =
     ∙ arity_at l n (omega (arith, h.0))
     ∙ simp (le-ltb arity_most (get_or l n 0) (omega (arith, h.1 n (omega arith))), add-one)
 
-pub leaf_at : (l : List ℕ) (i : ℕ) → i < length l → some_leaf (drop i l) ≡ pick (eqb (get_or l i 0) 0) Fine (some_leaf (drop (i + 1) l))
+pub leaf_at : (l : List ℕ) (i : ℕ) → i < length l → some_leaf (drop i l) ≡ pick (eqb (get_or l i 0) 0) (Ok tt) (some_leaf (drop (i + 1) l))
 unfolding some_leaf
 leaf_at l i h = ap some_leaf (drop_more l i h)
 
 verdict_at : (A : List ℕ) (ok : ℕ → Bool) (l : List ℕ) (k i : ℕ) → i < length l → 0 < k
     → verdict A ok k i (drop i l)
-    ≡ pick (ok (get_or l i 0)) (verdict A ok (k - 1 + get_or A (get_or l i 0) 0) (i + 1) (drop (i + 1) l)) (Faulty (Stray i))
+    ≡ pick (ok (get_or l i 0)) (verdict A ok (k - 1 + get_or A (get_or l i 0) 0) (i + 1) (drop (i + 1) l)) (Err (Stray i))
 unfolding verdict
 verdict_at A ok l k i h more =
     let one : k ≡ suc (k - 1) = omega arith in
     ap (λ (n : ℕ). verdict A ok n i (drop i l)) one ∙ ap (verdict A ok (suc (k - 1)) i) (drop_more l i h)
 
-verdict_extra : (A : List ℕ) (ok : ℕ → Bool) (l : List ℕ) (i : ℕ) → i < length l → verdict A ok 0 i (drop i l) ≡ Faulty (Extra i)
+verdict_extra : (A : List ℕ) (ok : ℕ → Bool) (l : List ℕ) (i : ℕ) → i < length l → verdict A ok 0 i (drop i l) ≡ Err (Extra i)
 unfolding verdict
 verdict_extra A ok l i h = ap (verdict A ok 0 i) (drop_more l i h)
 
-pub verdict_whole : (A : List ℕ) (ok : ℕ → Bool) (i : ℕ) → verdict A ok 0 i [] ≡ Whole
+pub verdict_whole : (A : List ℕ) (ok : ℕ → Bool) (i : ℕ) → verdict A ok 0 i [] ≡ Ok tt
 unfolding verdict
 verdict_whole A ok i = refl
 
-pub verdict_early : (A : List ℕ) (ok : ℕ → Bool) (k i : ℕ) → 0 < k → verdict A ok k i [] ≡ Faulty (Early i)
+pub verdict_early : (A : List ℕ) (ok : ℕ → Bool) (k i : ℕ) → 0 < k → verdict A ok k i [] ≡ Err (Early i)
 unfolding verdict
 verdict_early A ok zero i h = absurd (omega arith)
 verdict_early A ok (suc k) i h = refl
@@ -82,20 +83,20 @@ module _ (A : List ℕ) (ok : ℕ → Bool) (w : List ℕ) (i due : ℕ) (r : Re
 
   -- the number at i: nothing is due there, or it may not stand, or its children are due
   module _ (h : i < length w) where
-    pub read_extra : due ≡ i → verdict A ok 1 0 w ≡ Faulty (Extra i)
+    pub read_extra : due ≡ i → verdict A ok 1 0 w ≡ Err (Extra i)
     read_extra e =
         let none : due - i ≡ 0 = omega arith in
         r.3 ∙ ap (λ (n : ℕ). verdict A ok n i (drop i w)) none ∙ verdict_extra A ok w i h
 
     module _ (more : i < due) where
       read_here : (b : Bool) → ok (get_or w i 0) ≡ b
-          → verdict A ok 1 0 w ≡ pick b (verdict A ok (due - i - 1 + get_or A (get_or w i 0) 0) (i + 1) (drop (i + 1) w)) (Faulty (Stray i))
+          → verdict A ok 1 0 w ≡ pick b (verdict A ok (due - i - 1 + get_or A (get_or w i 0) 0) (i + 1) (drop (i + 1) w)) (Err (Stray i))
       read_here b q =
           r.3
           ∙ verdict_at A ok w (due - i) i h (omega arith)
-          ∙ ap (λ (c : Bool). pick c (verdict A ok (due - i - 1 + get_or A (get_or w i 0) 0) (i + 1) (drop (i + 1) w)) (Faulty (Stray i))) q
+          ∙ ap (λ (c : Bool). pick c (verdict A ok (due - i - 1 + get_or A (get_or w i 0) 0) (i + 1) (drop (i + 1) w)) (Err (Stray i))) q
 
-      pub read_stray : ok (get_or w i 0) ≡ false → verdict A ok 1 0 w ≡ Faulty (Stray i)
+      pub read_stray : ok (get_or w i 0) ≡ false → verdict A ok 1 0 w ≡ Err (Stray i)
       read_stray q = read_here false q
 
       pub read_next : ok (get_or w i 0) ≡ true → get_or A (get_or w i 0) 0 ≤ 65535 → ReadTo A ok w (i + 1) (due + get_or A (get_or w i 0) 0)
@@ -128,17 +129,35 @@ below_more m w n k r front within all small = (within, λ j h. at j h (dec_lt j 
         get_or-take k (drop n w) (j - n) 0 (omega arith) ∙ get_or-drop n w (j - n) 0 ∙ ap (λ (i : ℕ). get_or w i 0) back in
         omega (arith, all (j - n) (omega (arith, long)), same)
 
+-- and a part that ends where the list does may be shorter
+pub below_part : (m : ℕ) (w s : List ℕ) (n e r : ℕ) → BelowTo m w n → n ≤ e → e ≤ length w → s ≡ take (e - n) (drop n w)
+    → ((j : ℕ) → j < length s → get_or s j 0 ≤ r) → r < m → BelowTo m w e
+below_part m w s n e r front on within is all small =
+    let end : n + (e - n) ≡ e = omega arith in
+    subst (BelowTo m w) end
+    (below_more m w n (e - n) r front (omega arith) (subst (λ (l : List ℕ). (j : ℕ) → j < length l → get_or l j 0 ≤ r) is all) small)
+
 -- a length that is accepted is from 1 to the most
-pub sized_fits : (n m : ℕ) → sized n m ≡ Whole → (0 < n) × (n ≤ m)
+pub sized_fits : (n m : ℕ) → sized n m ≡ Ok tt → (0 < n) × (n ≤ m)
 unfolding sized
 sized_fits n m e = go (ltb n 1) (ltb m n) refl refl e
   where
-    go : (a b : Bool) → ltb n 1 ≡ a → ltb m n ≡ b → pick a (Faulty Empty) (pick b (Faulty (Long n)) Whole) ≡ Whole → (0 < n) × (n ≤ m)
+    go : (a b : Bool) → ltb n 1 ≡ a → ltb m n ≡ b → pick {X = Result ⊤ Fault} a (Err Empty) (pick b (Err (Long n)) (Ok tt)) ≡ Ok tt → (0 < n) × (n ≤ m)
     go true b p q e = let z : ◌≡◌ {A = ℕ} 0 1 = cc in absurd (omega arith)
     go false true p q e = let z : ◌≡◌ {A = ℕ} 0 1 = cc in absurd (omega arith)
     go false false p q e = (ltb-false n 1 p, ltb-false m n q)
 
 -- and a length from 1 to the most is accepted
-pub sized_whole : (n most : ℕ) → 0 < n → n ≤ most → sized n most ≡ Whole
+pub sized_whole : (n most : ℕ) → 0 < n → n ≤ most → sized n most ≡ Ok tt
 unfolding sized
 sized_whole n most h k = rw (le-ltb n 1 h, le-ltb most n k) refl
+
+-- some symbol is a leaf exactly if some arity is 0, by whatever test tells that
+pub leaf_any : (zero_is : ℕ → Bool) → ((a : ℕ) → zero_is a ≡ eqb a 0) → (l : List ℕ) → some_leaf l ≡ pick (list_any zero_is l) (Ok tt) (Err (Arities NoLeaf))
+unfolding some_leaf
+leaf_any t h [] = refl
+leaf_any t h (a ∷ l) = go (t a) refl (leaf_any t h l)
+  where
+    go : (b : Bool) → t a ≡ b → some_leaf l ≡ pick (list_any t l) (Ok tt) (Err (Arities NoLeaf)) → some_leaf (a ∷ l) ≡ pick (list_any t (a ∷ l)) (Ok tt) (Err (Arities NoLeaf))
+    go true e on = simp (e, sym (h a) ∙ e)
+    go false e on = simp (e, sym (h a) ∙ e, on)

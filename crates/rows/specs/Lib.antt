@@ -2,6 +2,7 @@ pub mod Limits
 pub mod Tree
 pub mod Parse
 pub mod Row
+pub mod Bytes
 pub mod Classes
 pub mod Reading
 pub mod Programme

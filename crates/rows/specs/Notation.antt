@@ -1,15 +1,14 @@
 -- More promises on rows: reading, the checksum rule of the literature, what no row is, and the limits written out. Each is proved in
 -- proofs/Promises, under the same name in small letters.
-use Rattle.std.specs.Prelude.{ℕ, ◌+◌, ◌<◌, ◌≡◌, List, [], ◌∷◌, ◌++◌, Bool, ◌↔◌, T, get_or, length, take}
+use Rattle.std.specs.Prelude.{ℕ, ◌+◌, ◌<◌, ◌≡◌, List, [], ◌∷◌, ◌++◌, Bool, ◌↔◌, T, get_or, length, take, Ok}
 use Rattle.rows.specs.Limits.{alphabet_most, arity_most, row_most, pattern_most, sheet_most, blank, first_variable, variables, span_places, result_places, freed_symbol, freed_entry, freed_class}
 use Rattle.rows.specs.Tree.{IsRow, single, ends}
 use Rattle.rows.specs.Parse.{table}
 use Rattle.rows.specs.Row.{verdict}
-use Rattle.rows.specs.declared.Verdict.TheVariants.{Whole}
 
 -- reading from left to right accepts exactly the prefix notations of ranked trees, whichever numbers may stand
 abbrev pub ReadsRows : Type 0
-ReadsRows = (A : List ℕ) (ok : ℕ → Bool) (w : List ℕ) → (verdict A ok 1 0 w ≡ Whole) ↔ IsRow A ok w
+ReadsRows = (A : List ℕ) (ok : ℕ → Bool) (w : List ℕ) → (verdict A ok 1 0 w ≡ Ok tt) ↔ IsRow A ok w
 
 -- sum of the arities
 unfoldable pub arities : List ℕ → List ℕ → ℕ

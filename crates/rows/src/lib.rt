@@ -1,14 +1,18 @@
 // The kernel: what is wrong with an alphabet, a row, a pattern or a replacement, and the checks that say so.
 #![tactic(auto)]
 
-ghost use Rattle.std.specs.Prelude.{◌≡◌, Bool, List, [], ℕ, ◌+◌, ◌-◌, ◌≤◌, ◌<◌, min, length, get_or};
+ghost use Rattle.std.specs.Prelude.{◌≡◌, Bool, List, [], ℕ, ◌+◌, ◌-◌, ◌≤◌, ◌<◌, length, get_or};
 ghost use Rattle.rows.specs.Row.{verdict, is_variable, allowed, sized, reading};
-ghost use Rattle.rows.specs.Reading.{ReadTo, Reads, BelowTo};
+ghost use Rattle.rows.specs.Reading.{ReadTo, Reads, BelowTo, SymbolsTo, children};
 ghost use Rattle.rows.specs.Limits.{row_most};
-ghost use Rattle.rows.specs.Programme.{alphabet_of};
+ghost use Rattle.rows.specs.Programme.{alphabet_of, programme_of, room};
 ghost use Rattle.rows.specs.Refusals.{arities_fit, some_leaf, alphabet, keeps, sizes, symbols, output};
 ghost use Rattle.rows.specs.declared.Kept.{Kept};
 ghost use Rattle.rows.specs.declared.Refusal.{Refusal};
+
+mod pieces;
+
+pub use pieces::Piece;
 
 // The sizes within which everything is accepted: the most symbols of an alphabet, the largest arity, the most symbols of a row
 // or a replacement, the most numbers of a pattern, the most patterns of a sheet, the most programmes of a catalogue and the most
@@ -54,7 +58,7 @@ pub const FREED_CLASS: u16 = 0;
 
 // What is wrong with a list that should be a tree's prefix notation: it is empty, it is too long, a number may not stand
 // in it, it ends before its tree does, it goes on after its tree.
-#[derive(Clone, Copy)]
+#[derive(Clone, Copy, Debug, PartialEq, Eq)]
 pub enum Fault {
     Empty,
     Long(usize),
@@ -63,21 +67,15 @@ pub enum Fault {
     Extra(usize),
 }
 
-#[derive(Clone, Copy)]
-pub enum Verdict {
-    Whole,
-    Faulty(Fault),
-}
-
 // Which leaves may stand beside the symbols of the alphabet: none, or S and the variables.
-#[derive(Clone, Copy)]
+#[derive(Clone, Copy, Debug, PartialEq, Eq)]
 pub enum Leaves {
     Symbols,
     Blanks,
 }
 
 // What is wrong with an alphabet: it has no symbols or too many, an arity is too large, no symbol is a leaf.
-#[derive(Clone, Copy)]
+#[derive(Clone, Copy, Debug, PartialEq, Eq)]
 pub enum Arities {
     Count(usize),
     Over(usize),
@@ -86,7 +84,7 @@ pub enum Arities {
 
 // What is wrong with a row and what is kept beside it: its symbols, a list that is too short, an entry of the table or a class that
 // is not the row's.
-#[derive(Clone, Copy)]
+#[derive(Clone, Copy, Debug, PartialEq, Eq)]
 pub enum Kept {
     Misread(Fault),
     Short(usize),
@@ -94,14 +92,8 @@ pub enum Kept {
     Misclassed(usize),
 }
 
-#[derive(Clone, Copy)]
-pub enum Keeping {
-    Sound,
-    Unsound(Kept),
-}
-
 // What is wrong with the input of a program: a line, or that it has too many bytes.
-#[derive(Clone, Copy)]
+#[derive(Clone, Copy, Debug, PartialEq, Eq)]
 pub enum Text {
     Line(usize),
     Bytes,
@@ -109,7 +101,7 @@ pub enum Text {
 
 // What is wrong with a catalogue or with its file: the file is too long, it is too short for what its head tells, there are too
 // many programmes, their numbers do not rise, rows do not follow each other as the contents say, bytes are left over.
-#[derive(Clone, Copy)]
+#[derive(Clone, Copy, Debug, PartialEq, Eq)]
 pub enum CatalogueFault {
     Long(usize),
     Short(usize),
@@ -121,7 +113,7 @@ pub enum CatalogueFault {
 
 // What is wrong with a bar form: no node is open where a number stands, a node has fewer children than its symbol wants or one more,
 // it ends before the root is closed.
-#[derive(Clone, Copy)]
+#[derive(Clone, Copy, Debug, PartialEq, Eq)]
 pub enum BarsFault {
     NothingOpen(usize),
     Children(usize),
@@ -130,7 +122,7 @@ pub enum BarsFault {
 
 // Why a call refuses, by what is wrong; the row of a programme of a catalogue by the programme's number. The crate `refusal_numbers`
 // gives the numbers and places.
-#[derive(Clone, Copy)]
+#[derive(Clone, Copy, Debug, PartialEq, Eq)]
 pub enum Refusal {
     Arities(Arities),
     Row(Kept),
@@ -148,157 +140,152 @@ pub enum Refusal {
     Programme(u32, Fault),
 }
 
+// A row with what is kept beside it: its table and its classes.
 #[derive(Clone, Copy)]
-pub enum Check {
-    Fine,
-    Refused(Refusal),
+pub struct Programme<'a> {
+    pub row: &'a [u16],
+    pub table: &'a [u16],
+    pub classes: &'a [u16],
+}
+
+impl Programme<'_> {
+    // How many places the shortest of its lists has.
+    pub fn room(self) -> usize
+        ensures { result ≡ room (programme_of self.entry) }
+    {
+        self.row.len().min(self.table.len().min(self.classes.len()))
+    }
 }
 
 // The largest number of a part. What counts is that none is above it. The part is looked at without a way out of it, which the
 // compiler turns into vector instructions.
-fn largest(part: &[u16]) -> u16
-    ensures { (k : ℕ) → k < length part.now → get_or part.now k 0 ≤ result }
+// Stays a loop over places: a list of pieces gives its numbers by place alone.
+fn largest<E: Piece>(part: &[E]) -> u16
+    ensures { (k : ℕ) → k < length (E.numbers part.now) → get_or (E.numbers part.now) k 0 ≤ result }
 {
-    let mut most: u16 = 0;
-    for k in 0..part.len() {
-        let s = part[k];
-        if most < s {
-            most = s;
-        }
+    let mut most = 0;
+    for k in 0..E::count(part) {
+        most = E::number_at(part, k).max(most);
     }
     most
 }
 
-// How many numbers at the front are below the bound for sure: whole stretches of 64, up to the first that has another number.
-fn count_below(bound: usize, list: &[u16]) -> usize
-    ensures { BelowTo bound list.now result }
+// So many numbers are looked at together.
+const GLANCE: usize = 64;
+
+// How many numbers at the front are below the bound for sure: whole stretches, up to the first that has another number.
+fn count_below<E: Piece>(bound: usize, list: &[E]) -> usize
+    ensures { BelowTo bound (E.numbers list.now) result }
 {
-    let mut n = 0;
-    while n + 64 <= list.len() {
-        if bound <= largest(&list[n..n + 64]) as usize {
-            return n;
+    let n = E::count(list);
+    for k in 0..n.div_ceil(GLANCE) {
+        let from = k * GLANCE;
+        let end = from + GLANCE.min(n - from);
+        if bound <= usize::from(largest(E::part(list, from, end))) {
+            return from;
         }
-        n += 64;
     }
     n
 }
 
 // Refusal 2: the first arity over 15, sought only where there is one.
-fn check_arities(arities: &[u16]) -> Check
+fn check_arities(arities: &[u16]) -> Result<(), Refusal>
     ensures { result ≡ arities_fit 0 arities.now }
 {
     if largest(arities) <= ARITY_MOST {
-        return Check::Fine;
+        return Ok(());
     }
-    let mut i = 0;
-    while i < arities.len() {
-        if ARITY_MOST < arities[i] {
-            return Check::Refused(Refusal::Arities(Arities::Over(i)));
+    for (i, &a) in arities.iter().enumerate() {
+        if ARITY_MOST < a {
+            return Err(Refusal::Arities(Arities::Over(i)));
         }
-        i += 1;
     }
-    Check::Fine
+    Ok(())
 }
 
 // Refusal 3: no symbol of arity 0.
-fn check_leaf(arities: &[u16]) -> Check
+fn check_leaf(arities: &[u16]) -> Result<(), Refusal>
     ensures { result ≡ some_leaf arities.now }
 {
-    let mut i = 0;
-    while i < arities.len() {
-        if arities[i] == 0 {
-            return Check::Fine;
-        }
-        i += 1;
+    if arities.contains(&0) {
+        return Ok(());
     }
-    Check::Refused(Refusal::Arities(Arities::NoLeaf))
+    Err(Refusal::Arities(Arities::NoLeaf))
 }
 
 // Refusals 1, 2 and 3.
-pub fn check_alphabet(arities: &[u16]) -> Check
+#[tactic(auto, unfolding(crate::specs::Refusals::alphabet, crate::specs::Refusals::alphabet_size))]
+pub fn check_alphabet(arities: &[u16]) -> Result<(), Refusal>
     ensures { result ≡ alphabet (alphabet_of arities.now) }
 {
     let n = arities.len();
     if n < 1 {
-        return Check::Refused(Refusal::Arities(Arities::Count(n)));
+        return Err(Refusal::Arities(Arities::Count(n)));
     }
     if ALPHABET_MOST < n {
-        return Check::Refused(Refusal::Arities(Arities::Count(n)));
+        return Err(Refusal::Arities(Arities::Count(n)));
     }
-    match check_arities(arities) {
-        Check::Fine => check_leaf(arities),
-        Check::Refused(r) => Check::Refused(r),
-    }
+    check_arities(arities)?;
+    check_leaf(arities)
 }
 
 // The arity of a number: its place in the alphabet says, and a number that is no symbol has none.
 pub fn arity_of(arities: &[u16], s: u16) -> u16
     ensures { result ≡ get_or arities.now s 0 }
 {
-    let k = s as usize;
-    if k < arities.len() { arities[k] } else { 0 }
+    arities.get(usize::from(s)).copied().unwrap_or(0)
 }
 
 // Is it one of X0 to X15?
 pub fn is_variable(s: u16) -> bool
     ensures { result ≡ is_variable s }
 {
-    if s < FIRST_VARIABLE {
-        return false;
-    }
-    s < PAST_VARIABLES
+    (FIRST_VARIABLE..PAST_VARIABLES).contains(&s)
 }
 
 // May the number stand?
 fn allows(leaves: Leaves, arities: &[u16], s: u16) -> bool
     ensures { result ≡ allowed leaves arities.now s }
 {
-    let k = s as usize;
-    if k < arities.len() {
+    if usize::from(s) < arities.len() {
         return true;
     }
     match leaves {
         Leaves::Symbols => false,
-        Leaves::Blanks => {
-            if s == BLANK {
-                return true;
-            }
-            is_variable(s)
-        }
+        Leaves::Blanks => s == BLANK || is_variable(s),
     }
-}
-
-// What reading a number finds: how many symbols are then due in all, or what is wrong.
-#[derive(Clone, Copy)]
-pub enum Read {
-    Due(usize),
-    Fault(Fault),
 }
 
 // The number at i, where `due` symbols are due in all: one for the root, and as many as each symbol so far has children.
-fn read_at(arities: &[u16], row: &[u16], leaves: Leaves, i: usize, due: usize) -> Read
-    requires { ReadTo arities.now (allowed leaves arities.now) row.now i due × (i < length row.now) × (length row.now ≤ row_most) }
-    ensures { Reads arities.now (allowed leaves arities.now) row.now i result }
+fn read_at<E: Piece>(
+    arities: &[u16],
+    row: &[E],
+    leaves: Leaves,
+    i: usize,
+    due: usize,
+) -> Result<usize, Fault>
+    requires { ReadTo arities.now (allowed leaves arities.now) (E.numbers row.now) i due × (i < length (E.numbers row.now)) × (length (E.numbers row.now) ≤ row_most) }
+    ensures { Reads arities.now (allowed leaves arities.now) (E.numbers row.now) i result }
 {
     if due == i {
-        return Read::Fault(Fault::Extra(i));
+        return Err(Fault::Extra(i));
     }
-    let s = row[i];
+    let s = E::number_at(row, i);
     if allows(leaves, arities, s) {
-        return Read::Due(due + arity_of(arities, s) as usize);
+        return Ok(due + usize::from(arity_of(arities, s)));
     }
-    Read::Fault(Fault::Stray(i))
+    Err(Fault::Stray(i))
 }
 
 // What the end of a list of n numbers finds.
-pub fn read_end(n: usize, due: usize) -> Verdict
+pub fn read_end(n: usize, due: usize) -> Result<(), Fault>
     requires { n ≤ due }
     ensures { (A : List ℕ) (ok : ℕ → Bool) → result ≡ verdict A ok (due - n) n [] }
 {
     if due == n {
-        Verdict::Whole
+        Ok(())
     } else {
-        Verdict::Faulty(Fault::Early(n))
+        Err(Fault::Early(n))
     }
 }
 
@@ -310,47 +297,92 @@ pub struct Reached {
 }
 
 // Reads on to the end, number by number.
-fn read_on(arities: &[u16], row: &[u16], leaves: Leaves, from: Reached) -> Verdict
-    requires { ReadTo arities.now (allowed leaves arities.now) row.now from.at from.due × (length row.now ≤ row_most) }
-    ensures { result ≡ verdict arities.now (allowed leaves arities.now) 1 0 row.now }
+fn read_on<E: Piece>(arities: &[u16], row: &[E], leaves: Leaves, from: Reached) -> Result<(), Fault>
+    requires { ReadTo arities.now (allowed leaves arities.now) (E.numbers row.now) from.at from.due × (length (E.numbers row.now) ≤ row_most) }
+    ensures { result ≡ verdict arities.now (allowed leaves arities.now) 1 0 (E.numbers row.now) }
+{
+    let n = E::count(row);
+    let mut due = from.due;
+    for i in from.at..n {
+        due = read_at(arities, row, leaves, i, due)?;
+    }
+    read_end(n, due)
+}
+
+// The arity of the symbol at position i.
+fn arity_at<E: Piece>(arities: &[u16], row: &[E], i: usize) -> usize
+    requires { (i < length (E.numbers row.now)) × (get_or (E.numbers row.now) i 0 < length arities.now) }
+    ensures { (result ≡ get_or arities.now (get_or (E.numbers row.now) i 0) 0) × (result ≤ 65535) }
+{
+    usize::from(arities[usize::from(E::number_at(row, i))])
+}
+
+// So many symbols are read at once where as many are due: each takes one, so that only their children have to be counted.
+const STRETCH: usize = 16;
+
+// How many children the symbols of a stretch have in all.
+// Stays a loop over places: a list of pieces gives its numbers by place alone.
+fn add_arities<E: Piece>(arities: &[u16], part: &[E]) -> usize
+    requires { (length (E.numbers part.now) ≤ 16) × ((k : ℕ) → k < length (E.numbers part.now) → get_or (E.numbers part.now) k 0 < length arities.now) }
+    ensures { (result ≡ children arities.now (E.numbers part.now) 0 (length (E.numbers part.now))) × (result ≤ 1048560) }
+{
+    let mut sum: usize = 0;
+    for k in 0..E::count(part) {
+        sum += arity_at(arities, part, k);
+    }
+    sum
+}
+
+// Reads the symbols up to `end`, two a turn, and stops where nothing may be due any more.
+// Stays a loop by index: two symbols a turn, and the place reached is the answer.
+fn read_pairs<E: Piece>(arities: &[u16], row: &[E], from: Reached, end: usize) -> Reached
+    requires read { SymbolsTo arities.now (E.numbers row.now) from.at from.due × (length (E.numbers row.now) ≤ row_most) }
+    requires below { BelowTo (length arities.now) (E.numbers row.now) end }
+    ensures { SymbolsTo arities.now (E.numbers row.now) result.at result.due }
 {
     let mut i = from.at;
     let mut due = from.due;
-    while i < row.len() {
-        match read_at(arities, row, leaves, i, due) {
-            Read::Fault(f) => return Verdict::Faulty(f),
-            Read::Due(after) => {
-                due = after;
-                i += 1;
-            }
-        }
-    }
-    read_end(row.len(), due)
-}
-
-// Reads at most the n numbers at the front, which are symbols, two a turn, and stops where nothing may be due any more.
-fn read_symbols(arities: &[u16], row: &[u16], n: usize) -> Reached
-    requires { BelowTo (length arities.now) row.now n × (length row.now ≤ row_most) }
-    ensures { (leaves : Leaves) → ReadTo arities.now (allowed leaves arities.now) row.now result.at result.due }
-{
-    let mut due: usize = 1;
-    let mut i = 0;
-    while i + 1 < n {
-        let between = due + arities[row[i] as usize] as usize;
+    while i + 1 < end {
+        let between = due + arity_at(arities, row, i);
         if due == i || between == i + 1 {
             return Reached { at: i, due };
         }
-        due = between + arities[row[i + 1] as usize] as usize;
+        due = between + arity_at(arities, row, i + 1);
         i += 2;
     }
     Reached { at: i, due }
 }
 
+// Reads at most the n numbers at the front, which are symbols, stretch by stretch, and stops where nothing may be due any more.
+// Stays a loop by index: the place reached is the answer, and where it ends within a stretch the rest is read otherwise.
+fn read_symbols<E: Piece>(arities: &[u16], row: &[E], n: usize) -> Reached
+    requires { BelowTo (length arities.now) (E.numbers row.now) n × (length (E.numbers row.now) ≤ row_most) }
+    ensures { SymbolsTo arities.now (E.numbers row.now) result.at result.due }
+{
+    let mut i = 0;
+    let mut due: usize = 1;
+    while i + STRETCH <= n {
+        let end = i + STRETCH;
+        if end <= due {
+            due += add_arities(arities, E::part(row, i, end));
+            i = end;
+            continue;
+        }
+        let after = read_pairs(arities, row, Reached { at: i, due }, end);
+        if after.at < end {
+            return after;
+        }
+        i = after.at;
+        due = after.due;
+    }
+    read_pairs(arities, row, Reached { at: i, due }, n)
+}
+
 // Is it a tree's prefix notation, with these leaves? The symbols at the front are read fast, without asking of each
 // whether it is one.
-pub fn check_row(arities: &[u16], row: &[u16], leaves: Leaves) -> Verdict
-    requires { length row.now ≤ row_most }
-    ensures { result ≡ verdict arities.now (allowed leaves arities.now) 1 0 row.now }
+pub fn check_row<E: Piece>(arities: &[u16], row: &[E], leaves: Leaves) -> Result<(), Fault>
+    requires { length (E.numbers row.now) ≤ row_most }
+    ensures { result ≡ verdict arities.now (allowed leaves arities.now) 1 0 (E.numbers row.now) }
 {
     let n = count_below(arities.len(), row);
     let front = read_symbols(arities, row, n);
@@ -358,75 +390,62 @@ pub fn check_row(arities: &[u16], row: &[u16], leaves: Leaves) -> Verdict
 }
 
 // Refusals 7, 8 and 9: the row is one tree's.
-pub fn check_symbols(arities: &[u16], row: &[u16]) -> Keeping
-    requires { length row.now ≤ row_most }
-    ensures { (whose : Kept → Refusal) → keeps whose result ≡ symbols whose arities.now row.now }
+#[tactic(auto, unfolding(crate::specs::Refusals::symbols))]
+pub fn check_symbols<E: Piece>(arities: &[u16], row: &[E]) -> Result<(), Kept>
+    requires { length (E.numbers row.now) ≤ row_most }
+    ensures { (whose : Kept → Refusal) → keeps whose result ≡ symbols whose arities.now (E.numbers row.now) }
 {
-    match check_row(arities, row, Leaves::Symbols) {
-        Verdict::Faulty(f) => Keeping::Unsound(Kept::Misread(f)),
-        Verdict::Whole => Keeping::Sound,
-    }
+    check_row(arities, row, Leaves::Symbols).map_err(Kept::Misread)
 }
 
 // Is a length from 1 to `most`?
-pub fn check_size(n: usize, most: usize) -> Verdict
+#[tactic(auto, unfolding(crate::specs::Row::sized))]
+pub fn check_size(n: usize, most: usize) -> Result<(), Fault>
     ensures { result ≡ sized n most }
 {
     if n < 1 {
-        return Verdict::Faulty(Fault::Empty);
+        return Err(Fault::Empty);
     }
     if most < n {
-        return Verdict::Faulty(Fault::Long(n));
+        return Err(Fault::Long(n));
     }
-    Verdict::Whole
+    Ok(())
 }
 
 // A pattern or a replacement, whole: its length is from 1 to `most`, and it is a tree's prefix notation.
-pub fn check_reading(arities: &[u16], list: &[u16], leaves: Leaves, most: usize) -> Verdict
+#[tactic(auto, unfolding(crate::specs::Row::reading))]
+pub fn check_reading<E: Piece>(
+    arities: &[u16],
+    list: &[E],
+    leaves: Leaves,
+    most: usize,
+) -> Result<(), Fault>
     requires { most ≤ row_most }
-    ensures { result ≡ reading arities.now leaves most list.now }
+    ensures { result ≡ reading arities.now leaves most (E.numbers list.now) }
 {
-    match check_size(list.len(), most) {
-        Verdict::Faulty(f) => Verdict::Faulty(f),
-        Verdict::Whole => check_row(arities, list, leaves),
-    }
-}
-
-// The shorter of two lengths.
-pub fn shorter(a: usize, b: usize) -> usize
-    ensures { result ≡ min a b }
-{
-    if a < b { a } else { b }
-}
-
-// The shortest of three.
-pub fn shortest(a: usize, b: usize, c: usize) -> usize
-    ensures { result ≡ min a (min b c) }
-{
-    shorter(a, shorter(b, c))
+    check_size(E::count(list), most)?;
+    check_row(arities, list, leaves)
 }
 
 // Refusals 4, 5 and 6, for a row of n symbols and lists with `room` places or more.
-pub fn check_sizes(n: usize, room: usize) -> Keeping
+#[tactic(auto, unfolding(crate::specs::Refusals::sizes))]
+pub fn check_sizes(n: usize, room: usize) -> Result<(), Kept>
     ensures { (whose : Kept → Refusal) → keeps whose result ≡ sizes whose n room }
 {
-    match check_size(n, ROW_MOST) {
-        Verdict::Faulty(f) => Keeping::Unsound(Kept::Misread(f)),
-        Verdict::Whole => {
-            if room < n {
-                return Keeping::Unsound(Kept::Short(n));
-            }
-            Keeping::Sound
-        }
+    check_size(n, ROW_MOST).map_err(Kept::Misread)?;
+    if room < n {
+        return Err(Kept::Short(n));
     }
+    Ok(())
 }
 
 // Refusal 19: n numbers have room in so many places.
-pub fn check_room(n: usize, places: usize) -> Check
+#[tactic(auto, unfolding(crate::specs::Refusals::output))]
+pub fn check_room(n: usize, places: usize) -> Result<(), Refusal>
     ensures { result ≡ output n places }
 {
     if places < n {
-        return Check::Refused(Refusal::OutputShort(n));
+        return Err(Refusal::OutputShort(n));
     }
-    Check::Fine
+    Ok(())
 }

@@ -10,6 +10,7 @@ pub fn read_full<R: Read>(input: &mut R, room: &mut [u8]) -> usize
     ensures bytes { Consumes (R.remaining input.old) (R.remaining input.new) (take result room.new) }
 {
     let mut done = 0;
+    // Stays a loop by index: how far a read goes is what the reader answers.
     while done < room.len() {
         match input.read(&mut room[done..]) {
             Ok(0) => return done,

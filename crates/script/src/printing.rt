@@ -66,7 +66,7 @@ fn numbers<W: Write>(to: &mut W, xs: &[u16]) -> io::Result<()>
     ensures { OnOk result (Appends (W.contents to.old) (W.contents to.new) (numbers_text xs.now)) }
 {
     for x in xs {
-        number(to, *x as usize)?;
+        number(to, usize::from(*x))?;
     }
     text(to, b"\n")
 }

@@ -5,11 +5,13 @@
 //     P9         is the positions 0 to 8, that is, the classes of a row of which no two subtrees are equal;
 //     A, T, E, C are alphabet A and row T of docs/SCOPE.md, the ends of T's subtrees, which are its table, and its classes.
 ghost use Rattle.std.specs.Prelude.{◌≡◌, ◌≢◌, ◌<◌, ◌≤◌, ◌-◌, ℕ, get_or, length, min, replicate};
+ghost use Rattle.script.specs.Room.{SameRoom};
 
 // Stands for a stroke among the numbers that are read. No case has this number.
 const STROKE: u16 = 60000;
 
 // Room for the numbers of a case.
+// Stays a function: the programs that read cases take rooms of one size, which stands here alone.
 pub fn room() -> [u16; 50000]
     ensures places { 50000 ≡ length result }
     ensures zeros { result ≡ replicate 50000 0 }
@@ -21,19 +23,91 @@ pub fn room() -> [u16; 50000]
 pub fn byte_at(line: &[u8], at: usize) -> u8
     ensures { result ≡ get_or line.now at 0 }
 {
-    if at < line.len() { line[at] } else { 0 }
+    line.get(at).copied().unwrap_or(0)
 }
 
-// One number into the room, behind the n that it has; answers how many it has then. A full room takes no more.
-fn push(room: &mut [u16], n: usize, value: u16) -> usize
-    requires { n ≤ length room.old }
-    ensures { result ≤ length room.new }
-{
-    if n < room.len() {
-        room[n] = value;
-        return n + 1;
+// The numbers that lists make: a lent room, and how many stand at its front. A full room takes no more.
+#[derive(Drop)]
+struct Numbers<'a> {
+    room: &'a mut [u16],
+    count: usize,
+    ghost fits: { count ≤ length room.now },
+}
+
+impl Numbers<'_> {
+    // One number more.
+    fn push(&mut self, value: u16)
+        ensures { SameRoom self.old.room self.new.room }
+    {
+        if self.count < self.room.len() {
+            self.room[self.count] = value;
+            self.count += 1;
+        }
     }
-    n
+
+    // The numbers of a list.
+    fn copy(&mut self, list: &[u16])
+        ensures { SameRoom self.old.room self.new.room }
+    {
+        for &value in list {
+            self.push(value);
+        }
+    }
+
+    // The last number again, so that it stands there several times.
+    fn repeat(&mut self, times: u16)
+        ensures { SameRoom self.old.room self.new.room }
+    {
+        if self.count == 0 {
+            return;
+        }
+        let value = self.room[self.count - 1];
+        for _ in 1..times {
+            self.push(value);
+        }
+    }
+
+    // The numbers below `many`, rising.
+    fn rise(&mut self, many: u16)
+        ensures { SameRoom self.old.room self.new.room }
+    {
+        for i in 0..many {
+            self.push(i);
+        }
+    }
+
+    // A named list. Letters of the case's word put nothing.
+    fn put_named(&mut self, name: u8)
+        ensures { SameRoom self.old.room self.new.room }
+    {
+        match name {
+            b'A' => self.copy(&[0u16, 0, 1, 2, 3]),
+            b'T' => self.copy(&[4u16, 3, 0, 0, 2, 1, 3, 0, 0]),
+            b'E' => self.copy(&[9u16, 4, 3, 4, 6, 6, 9, 8, 9]),
+            b'C' => self.copy(&[0u16, 1, 2, 2, 4, 5, 1, 2, 2]),
+            _ => {}
+        }
+    }
+
+    // A mark with the digits behind it.
+    fn put(&mut self, mark: u8, digits: &[u8])
+        ensures { SameRoom self.old.room self.new.room }
+    {
+        match mark {
+            b'S' => self.push(65535),
+            b'B' => self.push(65534),
+            b'X' => self.push(65280u16.wrapping_add(value(digits))),
+            b'|' => self.push(STROKE),
+            b'x' => self.repeat(value(digits)),
+            b'P' => self.rise(value(digits)),
+            b' ' => {
+                if !digits.is_empty() {
+                    self.push(value(digits));
+                }
+            }
+            _ => self.put_named(mark),
+        }
+    }
 }
 
 // The numbers of a list into the room, behind the first ones; answers how many it has then.
@@ -41,39 +115,9 @@ pub fn copy(list: &[u16], room: &mut [u16], first: usize) -> usize
     requires { first ≤ length room.old }
     ensures { result ≤ length room.new }
 {
-    let mut n = first;
-    for i in 0..list.len() {
-        n = push(room, n, list[i]);
-    }
-    n
-}
-
-// The last number again, so that it stands there several times.
-fn repeat(room: &mut [u16], first: usize, times: u16) -> usize
-    requires { first ≤ length room.old }
-    ensures { result ≤ length room.new }
-{
-    if first == 0 {
-        return 0;
-    }
-    let value = room[first - 1];
-    let mut n = first;
-    for i in 1..times {
-        n = push(room, n, value);
-    }
-    n
-}
-
-// The numbers below `many`, rising.
-fn rise(room: &mut [u16], first: usize, many: u16) -> usize
-    requires { first ≤ length room.old }
-    ensures { result ≤ length room.new }
-{
-    let mut n = first;
-    for i in 0..many {
-        n = push(room, n, i);
-    }
-    n
+    let mut numbers = Numbers { room, count: first };
+    numbers.copy(list);
+    numbers.count
 }
 
 // Where the line ends that stands at a byte of the text.
@@ -83,14 +127,12 @@ pub fn line_end(input: &[u8], from: usize) -> usize
     ensures before { (i : ℕ) → from ≤ i → i < result → get_or input.now i 0 ≢ 10 }
     ensures ended { result < length input.now → get_or input.now result 0 ≡ 10 }
 {
-    let mut end = from;
-    while end < input.len() {
+    for end in from..input.len() {
         if input[end] == b'\n' {
             return end;
         }
-        end += 1;
     }
-    end
+    input.len()
 }
 
 // Where the digits end that stand at a byte of the line.
@@ -98,87 +140,44 @@ fn digits_end(line: &[u8], from: usize) -> usize
     requires { from ≤ length line.now }
     ensures { (from ≤ result) × (result ≤ length line.now) }
 {
-    let mut end = from;
-    while end < line.len() {
-        if line[end] < b'0' {
+    for end in from..line.len() {
+        if !line[end].is_ascii_digit() {
             return end;
         }
-        if b'9' < line[end] {
-            return end;
-        }
-        end += 1;
     }
-    end
+    line.len()
 }
 
 // Ten times n, and a digit. No number of a case is above 65535.
 fn with_digit(n: u16, digit: u8) -> u16 {
-    if 6553 < n {
+    if 6553 < n || digit < b'0' {
         return n;
     }
-    if digit < b'0' {
-        return n;
-    }
-    (n * 10).wrapping_add((digit - b'0') as u16)
+    (n * 10).wrapping_add(u16::from(digit - b'0'))
 }
 
 // The number that digits make.
 fn value(digits: &[u8]) -> u16 {
     let mut n = 0;
-    for i in 0..digits.len() {
-        n = with_digit(n, digits[i]);
+    for &digit in digits {
+        n = with_digit(n, digit);
     }
     n
-}
-
-// A named list. Letters of the case's word put nothing.
-fn put_named(name: u8, room: &mut [u16], first: usize) -> usize
-    requires { first ≤ length room.old }
-    ensures { result ≤ length room.new }
-{
-    match name {
-        b'A' => copy(&[0u16, 0, 1, 2, 3], room, first),
-        b'T' => copy(&[4u16, 3, 0, 0, 2, 1, 3, 0, 0], room, first),
-        b'E' => copy(&[9u16, 4, 3, 4, 6, 6, 9, 8, 9], room, first),
-        b'C' => copy(&[0u16, 1, 2, 2, 4, 5, 1, 2, 2], room, first),
-        _ => first,
-    }
-}
-
-// A mark with the digits behind it.
-fn put(mark: u8, digits: &[u8], room: &mut [u16], first: usize) -> usize
-    requires { first ≤ length room.old }
-    ensures { result ≤ length room.new }
-{
-    match mark {
-        b'S' => push(room, first, 65535),
-        b'B' => push(room, first, 65534),
-        b'X' => push(room, first, 65280u16.wrapping_add(value(digits))),
-        b'|' => push(room, first, STROKE),
-        b'x' => repeat(room, first, value(digits)),
-        b'P' => rise(room, first, value(digits)),
-        b' ' => {
-            if digits.len() == 0 {
-                return first;
-            }
-            push(room, first, value(digits))
-        }
-        _ => put_named(mark, room, first),
-    }
 }
 
 // The lists of a line, each stroke as STROKE; answers how many numbers that makes.
 pub fn read(line: &[u8], room: &mut [u16]) -> usize
     ensures { result ≤ length room.new }
 {
-    let mut n = 0;
+    let mut numbers = Numbers { room, count: 0 };
     let mut at = 0;
+    // Stays a loop by index: the next list begins where the digits of this one end.
     while at < line.len() {
         let end = digits_end(line, at + 1);
-        n = put(line[at], &line[at + 1..end], room, n);
+        numbers.put(line[at], &line[at + 1..end]);
         at = end;
     }
-    n
+    numbers.count
 }
 
 // Where the list ends that stands at a place of a case.
@@ -186,14 +185,12 @@ fn list_end(case: &[u16], from: usize) -> usize
     requires { from ≤ length case.now }
     ensures { (from ≤ result) × (result ≤ length case.now) }
 {
-    let mut end = from;
-    while end < case.len() {
+    for end in from..case.len() {
         if case[end] == STROKE {
             return end;
         }
-        end += 1;
     }
-    end
+    case.len()
 }
 
 // Where a list begins, which are counted from 0; the end of the case for one that it lacks.
@@ -201,11 +198,11 @@ fn list_begin(case: &[u16], which: usize) -> usize
     ensures { result ≤ length case.now }
 {
     let mut left = which;
-    for i in 0..case.len() {
+    for (i, &number) in case.iter().enumerate() {
         if left == 0 {
             return i;
         }
-        if case[i] == STROKE {
+        if number == STROKE {
             left -= 1;
         }
     }
@@ -234,8 +231,7 @@ pub fn unset_places() -> [u16; 16384]
 fn last(case: &[u16]) -> u16
     ensures { result ≡ get_or case.now (length case.now - 1) 0 }
 {
-    let n = case.len();
-    if 0 < n { case[n - 1] } else { 0 }
+    case.last().copied().unwrap_or(0)
 }
 
 // How many places the buffer has: the last number of the case.
@@ -243,19 +239,18 @@ pub fn places(case: &[u16]) -> usize
     ensures within { result ≤ 16384 }
     ensures told { result ≡ min (get_or case.now (length case.now - 1) 0) 16384 }
 {
-    let n = last(case) as usize;
-    if n <= 16384 { n } else { 16384 }
+    usize::from(last(case)).min(16384)
 }
 
 // The number at a place of a list; 0 past its end.
 fn entry(list: &[u16], i: usize) -> u16
     ensures { result ≡ get_or list.now i 0 }
 {
-    if i < list.len() { list[i] } else { 0 }
+    list.get(i).copied().unwrap_or(0)
 }
 
 // A number that stands as a list. Two numbers are added, so that 65535 1 is 65536.
 pub fn number_at(case: &[u16], which: usize) -> usize {
     let list = list_at(case, which);
-    entry(list, 0) as usize + entry(list, 1) as usize
+    usize::from(entry(list, 0)) + usize::from(entry(list, 1))
 }

@@ -1,5 +1,6 @@
 -- After a walk that comes through, the spans of its marks are those of the variables: what the search for variables writes.
 -- Assumes nothing.
+use Rattle.std.specs.Prelude.{Ok, Err}
 use Prim.Native.Nat.{ℕ, zero, suc, ◌≤◌, ◌<◌}
 use mathlib.Core.Path.{◌≡◌, refl, sym, ap, ap₂, ◌∙◌}
 use mathlib.Core.List.{List, [], ◌∷◌, ◌++◌}
@@ -11,9 +12,7 @@ use Rattle.rows.specs.Parse.{table}
 use Rattle.rows.specs.Buffers.{written}
 use Rattle.patterns.specs.Answers.{facing, spansBelow}
 use Rattle.patterns.specs.Searchable.{Checked}
-use Rattle.patterns.specs.Walk.{Outcome, Outcome.misses, Outcome.reaches, Misses, walk, unmarked, mark_begin, mark_end}
-use Rattle.patterns.specs.declared.Walked.{Walked}
-use Rattle.patterns.specs.declared.Walked.TheVariants.{Through, Fails}
+use Rattle.patterns.specs.Walk.{Outcome.misses, Outcome.reaches, walk, unmarked, mark_begin, mark_end}
 use Rattle.patterns.proofs.Facing.{span_seat, mark_is}
 use Rattle.patterns.proofs.Matching.{walk_marks, walk_matches, missed}
 use Rattle.searches.specs.Searches.{VariablesAt}
@@ -42,23 +41,16 @@ module _ (a : Alphabet) (P : Programme) (q : List ℕ) (c : Checked a P q) (p : 
 
 -- what the search for variables answers
 pub variables_none : (P : Programme) (q : List ℕ) (p : ℕ) (y : List ℕ) (k x : ℕ) → p < length P.row
-    → ((e : List ℕ) → SameEnds P e → walk P.row e 0 q p unmarked ≡ misses k x) → (a : Alphabet) → Checked a P q → VariablesAt a P.row q p y (Fails k x) y
+    → ((e : List ℕ) → SameEnds P e → walk P.row e 0 q p unmarked ≡ misses k x) → (a : Alphabet) → Checked a P q → VariablesAt a P.row q p y (Err (k, x)) y
 variables_none P q p y k x inside z a c =
     record {
       answer = (missed a P q c p inside k x (z P.table (lent-ends P)), z (table a.arities P.row) (own_ends a P q c));
       buffer = refl;
     }
 
--- the code's answer for the step o that misses
-pub variables_missed : (P : Programme) (q : List ℕ) (p : ℕ) (y : List ℕ) (r : Walked) (o : Outcome) → p < length P.row → Misses o r
-    → ((k x : ℕ) → o ≡ misses k x → (e : List ℕ) → SameEnds P e → walk P.row e 0 q p unmarked ≡ misses k x) → (a : Alphabet) → Checked a P q
-    → VariablesAt a P.row q p y r y
-variables_missed P q p y Through o inside m stops a c = absurd m
-variables_missed P q p y (Fails k x) o inside m stops a c = variables_none P q p y k x inside (stops k x m) a c
-
 pub variables_some : (P : Programme) (q : List ℕ) (p : ℕ) (y y' : List ℕ) (j : ℕ) (ms : List ℕ) → p < length P.row
     → walk P.row P.table 0 q p unmarked ≡ reaches j ms → y' ≡ written y 0 (mark_spans P.table ms variables)
-    → (a : Alphabet) → Checked a P q → VariablesAt a P.row q p y Through y'
+    → (a : Alphabet) → Checked a P q → VariablesAt a P.row q p y (Ok tt) y'
 variables_some P q p y y' j ms inside z b a c =
     record {
       answer = walk_matches a P q c p inside j ms z;

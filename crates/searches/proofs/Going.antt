@@ -1,5 +1,6 @@
 -- A walk under way: each step stays within the row, since as many trees stand ahead in the row as in the pattern.
 -- Assumes nothing.
+use Rattle.std.specs.Prelude.{Option, Some, None}
 use Prim.Native.Nat.{ℕ, zero, suc, ◌+◌, ◌-◌, ◌≤◌, ◌<◌}
 use mathlib.Core.Path.{◌≡◌, refl, sym, ap, ap₂, ◌∙◌, subst, subst₂}
 use mathlib.Core.List.{List, ◌++◌}
@@ -9,8 +10,8 @@ use native.Mathlib.Decide.{dec_lt}
 use native.Mathlib.Nat.{zero-add}
 use borrow.Author.Tests.{eqb-true, eq-eqb}
 use lib.Dec.{eqb}
-use lib.ListN.{get_or, length, drop, set, drop_of_length-le, get_or-eq_default}
-use lib.Seq.{drop-drop, drop_at}
+use lib.ListN.{get_or, length, take, drop, set, drop_of_length-le, get_or-eq_default}
+use lib.Seq.{drop-drop, drop_at, get_or-take, get_or-drop}
 use Rattle.rows.specs.Limits.{first_variable}
 use Rattle.rows.specs.Programme.{Alphabet, Programme}
 use Rattle.rows.specs.Tree.{Forest, size, count, prefix}
@@ -30,8 +31,6 @@ use Rattle.patterns.specs.Searchable.{Checked, Searchable}
 use Rattle.patterns.specs.Walk.{same_symbol, agreeing, Alike, Outcome, Outcome.misses, Outcome.reaches, meets, takes, steps, onward, walk, unmarked, through, MarksIn, stepped, marks_after, Stepping}
 use Rattle.patterns.specs.declared.Leaf.{Leaf}
 use Rattle.patterns.specs.declared.Leaf.TheVariants.{Plain, Blank, Variable}
-use Rattle.patterns.specs.declared.Stepped.{Stepped}
-use Rattle.patterns.specs.declared.Stepped.TheVariants.{To, Miss}
 use Rattle.patterns.proofs.Leaves.{Kind, kind}
 use Rattle.patterns.proofs.Marks.{picks, marks_none, marks_wider, marks_set}
 use Rattle.patterns.proofs.Matching.{checked_ends, checked_pattern}
@@ -199,26 +198,26 @@ module _ (P : Programme) (q : List ℕ) (p : ℕ) where
       walking_same y = walking_to (j + 1) ms (steps_same P.row P.table k (get_or q k 0) j ms y)
 
       -- the step is the code's answer
-      module _ (r : Stepped) (ms' : List ℕ) (b : Stepping here ms r ms') where
-        pub walking_next : (n : ℕ) → r ≡ To n → Walking P q p ms' n (k + 1)
+      module _ (r : Option ℕ) (ms' : List ℕ) (b : Stepping here ms r ms') where
+        pub walking_next : (n : ℕ) → r ≡ Some n → Walking P q p ms' n (k + 1)
         walking_next n z = go here refl (sym b.answer ∙ z) b.marks
           where
-            go : (o : Outcome) → here ≡ o → stepped o ≡ To n → ms' ≡ marks_after ms o → Walking P q p ms' n (k + 1)
+            go : (o : Outcome) → here ≡ o → stepped o ≡ Some n → ms' ≡ marks_after ms o → Walking P q p ms' n (k + 1)
             go (misses x y) t z m = let x : ◌≡◌ {A = ℕ} 0 1 = cc in absurd (omega arith)
             go (reaches n' ms'') t z m = let x : n' ≡ n = cc in walking_to n ms' (t ∙ ap₂ reaches x (sym m))
 
         -- a step that misses leaves the marks
-        pub missed_marks : r ≡ Miss → ms' ≡ ms
+        pub missed_marks : r ≡ None → ms' ≡ ms
         missed_marks z = go here (sym b.answer ∙ z) b.marks
           where
-            go : (o : Outcome) → stepped o ≡ Miss → ms' ≡ marks_after ms o → ms' ≡ ms
+            go : (o : Outcome) → stepped o ≡ None → ms' ≡ marks_after ms o → ms' ≡ ms
             go (misses x y) t m = m
             go (reaches n ms'') t m = let x : ◌≡◌ {A = ℕ} 0 1 = cc in absurd (omega arith)
 
-        pub walking_miss : r ≡ Miss → through (walk P.row P.table 0 q p unmarked) ≡ false
+        pub walking_miss : r ≡ None → through (walk P.row P.table 0 q p unmarked) ≡ false
         walking_miss z = go here refl (sym b.answer ∙ z)
           where
-            go : (o : Outcome) → here ≡ o → stepped o ≡ Miss → through (walk P.row P.table 0 q p unmarked) ≡ false
+            go : (o : Outcome) → here ≡ o → stepped o ≡ None → through (walk P.row P.table 0 q p unmarked) ≡ false
             go (misses x y) t z = ap through (walking_stops x y t P.table (lent-ends P))
             go (reaches n ms'') t z = let x : ◌≡◌ {A = ℕ} 0 1 = cc in absurd (omega arith)
 
@@ -245,3 +244,7 @@ walking_through P q p s (suc n) ms j k h l b =
     go : Dec (k < length q) → ((x : ℕ) → Walking P q p ms x (k + 1) → EndsWell) → EndsWell
     go (no m) on = (j, walking_end P q p s ms j k h (omega arith))
     go (yes m) on = let t = walking_fits P q p s ms j k h m (b k (omega arith) m) in on t.0 t.1
+
+-- the numbers of the pattern from place a on
+pub part_at : (q : List ℕ) (a n i : ℕ) → i < n → get_or (take n (drop a q)) i 0 ≡ get_or q (a + i) 0
+part_at q a n i h = get_or-take n (drop a q) i 0 h ∙ get_or-drop a q i 0

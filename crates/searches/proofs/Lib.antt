@@ -6,3 +6,4 @@ pub mod Searching
 pub mod Counting
 pub mod Writing
 pub mod Binding
+pub mod Stretch

@@ -163,14 +163,6 @@ module _ (P : Programme) (q : List ℕ) (s : Searchable P q) (p : ℕ) (inside :
       ap through (walking_through P q p s (length q) unmarked (p + 1) 1 (root_same y) (omega arith) b.blank).1
 
 -- THE ROOT, A STRETCH AT A TIME
--- one position more where the symbol does not stand
-pub without_more : (w : List ℕ) (s k : ℕ) → Without w s 0 k → (get_or w k 0 ≡ s → ⊥) → Without w s 0 (k + 1)
-without_more w s k h n x l u y = go (ℕ_discrete x k)
-  where
-    go : Dec (x ≡ k) → ⊥
-    go (yes d) = n (ap (λ (i : ℕ). get_or w i 0) (sym d) ∙ y)
-    go (no d) = h x l (omega arith) y
-
 -- a part of the row in which it does not stand
 pub without_part : (w : List ℕ) (s from p n : ℕ) → p + n ≤ length w → Without w s from p → Without (take n (drop p w)) s 0 (length (take n (drop p w))) → Without w s from (p + n)
 without_part w s from p n long h part x l u y = go (dec_lt x p)

@@ -1,7 +1,6 @@
 -- Inside: no public contract cites what stands in this file, and no reader has to believe it.
 -- What the searches of this crate ask for, and what they promise to the public calls.
-use Rattle.std.specs.Prelude.{ℕ, zero, suc, ◌+◌, ◌-◌, ◌≤◌, ◌<◌, ◌≡◌, List, [], ◌∷◌, Bool, true, false, eqb, length, get_or}
-use Rattle.rows.specs.Limits.{row_most}
+use Rattle.std.specs.Prelude.{ℕ, zero, suc, ◌+◌, ◌-◌, ◌≤◌, ◌<◌, ◌≡◌, List, [], ◌∷◌, Bool, true, false, eqb, length, get_or, Result, Ok, Err, ⊤, Option, Some, None}
 use Rattle.rows.specs.Programme.{Alphabet, Programme}
 use Rattle.rows.specs.Parse.{table}
 use Rattle.rows.specs.Row.{pick, is_variable}
@@ -11,12 +10,7 @@ use Rattle.patterns.specs.Pattern.{leaf}
 use Rattle.patterns.specs.Searchable.{Checked, Searchable, BlankFrom}
 use Rattle.patterns.specs.Walk.{below, same_symbol, walk, unmarked, Decides, after_walk}
 use Rattle.patterns.specs.declared.Leaf.TheVariants.{Plain}
-use Rattle.patterns.specs.declared.Walked.{Walked}
 use Rattle.searches.specs.declared.Outline.{Outline}
-use Rattle.searches.specs.declared.Next.{Next}
-use Rattle.searches.specs.declared.Next.TheVariants.{At, Nowhere}
-use Rattle.searches.specs.declared.Listing.{Listing}
-use Rattle.searches.specs.declared.Listing.TheVariants.{All, Needs}
 
 -- the subtree at position p, by the ends e, has `size` symbols, or any number of them if that is 0
 unfoldable pub sized : List ℕ → ℕ → ℕ → Bool
@@ -43,11 +37,10 @@ pub record Stretched (from to n : ℕ) : Type 0 where
   pub short : to ≤ from + 64
   pub within : to ≤ n
 
--- a pattern of which the numbers before place m decide, and n positions of the row
-pub record Keepable (P : Programme) (q : List ℕ) (m : ℕ) (ps : List ℕ) (n : ℕ) : Type 0 where
+-- it can be searched for, and its numbers before place m decide
+pub record Walkable (P : Programme) (q : List ℕ) (m : ℕ) : Type 0 where
   pub searchable : Searchable P q
   pub compared : BlankFrom q m
-  pub within : (i : ℕ) → i < n → get_or ps i 0 < length P.row
 
 -- a root over one variable, twice
 pub record Twin (q : List ℕ) : Type 0 where
@@ -59,12 +52,11 @@ pub record Twin (q : List ℕ) : Type 0 where
 unfoldable pub twins : List ℕ → List ℕ → ℕ → Bool
 twins e c p = eqb (get_or c (p + 1) 0) (get_or c (get_or e (p + 1) 0) 0)
 
--- at n positions two subtrees stand behind the symbol, which have classes
-pub record Paired (e c ps : List ℕ) (n : ℕ) : Type 0 where
-  pub small : (i : ℕ) → i < n → get_or ps i 0 < row_most
-  pub first : (i : ℕ) → i < n → get_or ps i 0 + 1 < length e
-  pub first_class : (i : ℕ) → i < n → get_or ps i 0 + 1 < length c
-  pub second_class : (i : ℕ) → i < n → get_or e (get_or ps i 0 + 1) 0 < length c
+-- at position p two subtrees stand behind the symbol, which have classes
+pub record Paired (e c : List ℕ) (p : ℕ) : Type 0 where
+  pub first : p + 1 < length e
+  pub first_class : p + 1 < length c
+  pub second_class : get_or e (p + 1) 0 < length c
 
 -- the symbol s does not stand in the row w from position b up to e
 abbrev pub Without : List ℕ → ℕ → ℕ → ℕ → Type 0
@@ -101,9 +93,9 @@ abbrev pub NoneFrom : Alphabet → List ℕ → List ℕ → ℕ → ℕ → Typ
 NoneFrom a w q from to = (x : ℕ) → from ≤ x → x < to → MatchesAt a w q x → ⊥
 
 -- what the search for the next match before `to` answers
-abbrev pub NextIs : Alphabet → List ℕ → List ℕ → ℕ → ℕ → Next → Type 0
-NextIs a w q from to (At p) = FirstFrom a w q from to p
-NextIs a w q from to Nowhere = NoneFrom a w q from to
+abbrev pub NextIs : Alphabet → List ℕ → List ℕ → ℕ → ℕ → Option ℕ → Type 0
+NextIs a w q from to (Some p) = FirstFrom a w q from to p
+NextIs a w q from to None = NoneFrom a w q from to
 
 -- whether the pattern is S or a variable alone
 abbrev pub BareIs : List ℕ → Bool → Type 0
@@ -116,18 +108,18 @@ positions_below n = below (λ i. true) n
 
 -- What is told of the list ps, for a buffer y that then holds y': all is written at the buffer's front; or nothing is, since
 -- more places are needed.
-abbrev pub ListTold : List ℕ → List ℕ → Listing → List ℕ → Type 0
-ListTold ps y (All n) y' = (n ≡ length ps) × (n ≤ length y) × (y' ≡ written y 0 ps)
-ListTold ps y (Needs n) y' = (n ≡ length ps) × (length y < n) × (y' ≡ y)
+abbrev pub ListTold : List ℕ → List ℕ → Result ℕ ℕ → List ℕ → Type 0
+ListTold ps y (Ok n) y' = (n ≡ length ps) × (n ≤ length y) × (y' ≡ written y 0 ps)
+ListTold ps y (Err n) y' = (n ≡ length ps) × (length y < n) × (y' ≡ y)
 
 -- that is told of the list of all matches
-pub record Lists (a : Alphabet) (w q y : List ℕ) (r : Listing) (y' : List ℕ) : Type 0 where
+pub record Lists (a : Alphabet) (w q y : List ℕ) (r : Result ℕ ℕ) (y' : List ℕ) : Type 0 where
   pub positions : List ℕ
   pub listed : Listed a w q (length w) positions
   pub told : ListTold positions y r y'
 
 -- `r` says whether the pattern matches at p, and where the walk over the row and its own table fails; if it matches, the spans
 -- of its variables are written at the front of the buffer y
-pub record VariablesAt (a : Alphabet) (w q : List ℕ) (p : ℕ) (y : List ℕ) (r : Walked) (y' : List ℕ) : Type 0 where
+pub record VariablesAt (a : Alphabet) (w q : List ℕ) (p : ℕ) (y : List ℕ) (r : Result ⊤ (ℕ × ℕ)) (y' : List ℕ) : Type 0 where
   pub answer : Decides (MatchesAt a w q p) (walk w (table a.arities w) 0 q p unmarked) r
   pub buffer : y' ≡ after_walk r (written y 0 (spans a.arities w q p)) y

@@ -2,24 +2,17 @@
 // pattern, a step at a time, from a position of the row.
 #![tactic(auto)]
 
-ghost use Rattle.std.specs.Prelude.{◌≡◌, true, false, ◌+◌, ◌-◌, ◌≤◌, ◌<◌, length, take};
+ghost use Rattle.std.specs.Prelude.{◌≡◌, true, false, Bool, ℕ, ◌+◌, ◌-◌, ◌≤◌, ◌<◌, length, get_or, take, Ok};
 ghost use Rattle.rows.specs.Limits.{variables, row_most};
-ghost use Rattle.rows.specs.Programme.{Alphabet, Programme, programme};
+ghost use Rattle.rows.specs.Programme.{Alphabet, Programme as Lent, programme_of};
 ghost use Rattle.rows.specs.Buffers.{written};
 ghost use Rattle.patterns.specs.Searchable.{Checked, Searchable};
 ghost use Rattle.patterns.specs.Walk.{Ends, MarksIn, comes_through, mark_begin, mark_end};
-ghost use Rattle.searches.specs.Searches.{AllSized, Outlined, Seekable, Keepable, Stretched, Twin, Paired, may_match, range, passing, twins, Kept, Without, NextIs, BareIs, positions_below, Lists, VariablesAt};
+ghost use Rattle.searches.specs.Searches.{AllSized, Outlined, Seekable, Walkable, Stretched, Twin, Paired, may_match, range, passing, twins, Kept, Without, NextIs, BareIs, positions_below, Lists, VariablesAt};
 ghost use Rattle.searches.specs.Spans.{mark_spans};
-ghost use Rattle.searches.specs.declared.Listing.TheVariants.{All};
 
-use patterns::{Leaf, Stepped, Walked};
-
-// What the search for the next match finds.
-#[derive(Clone, Copy)]
-pub enum Next {
-    At(usize),
-    Nowhere,
-}
+use patterns::Leaf;
+use rows::Programme;
 
 // What is known of a pattern before its search: how many of its numbers are compared, since S at its end always fits; and how
 // many symbols each of its matches has, or 0 where they can differ in that.
@@ -29,23 +22,24 @@ struct Outline {
     size: usize,
 }
 
-// How many symbols each match of the pattern has: without blanks it matches its own size alone. Else 0. The numbers are looked at
-// without a way out of the loop, which the compiler turns into vector instructions.
+// How many symbols each match of the pattern has: without blanks it matches its own size alone. Else 0.
+// Stays a loop: `any` leaves at the first blank, so the compiler makes no vector instructions of it, and 256 numbers take six times
+// as long.
 fn size_of(pattern: &[u16]) -> usize
-    ensures { (P : Programme) → AllSized P pattern.now result }
+    ensures { (P : Lent) → AllSized P pattern.now result }
 {
-    let mut blanks: u16 = 0;
-    for k in 0..pattern.len() {
-        if rows::FIRST_VARIABLE <= pattern[k] {
-            blanks = 1;
+    let mut blanks = false;
+    for &s in pattern {
+        if rows::FIRST_VARIABLE <= s {
+            blanks = true;
         }
     }
-    if blanks == 1 { 0 } else { pattern.len() }
+    if blanks { 0 } else { pattern.len() }
 }
 
 // The outline of a pattern.
 fn outline_of(pattern: &[u16]) -> Outline
-    ensures { (P : Programme) → Outlined P pattern.now result }
+    ensures { (P : Lent) → Outlined P pattern.now result }
 {
     let compared = patterns::count_compared(pattern);
     let size = size_of(pattern);
@@ -58,8 +52,8 @@ fn may_match(row: &[u16], table: &[u16], root: u16, size: usize, p: usize) -> bo
     requires { Ends row.now table.now × (p < length row.now) }
     ensures { result ≡ may_match row.now table.now root size p }
 {
-    let end = table[p] as usize;
-    if patterns::same(row[p], root) {
+    let end = usize::from(table[p]);
+    if row[p] == root {
         if size == 0 {
             return true;
         }
@@ -68,18 +62,18 @@ fn may_match(row: &[u16], table: &[u16], root: u16, size: usize, p: usize) -> bo
     false
 }
 
-// Does the symbol stand in the part? It is looked at without a way out of it, which the compiler turns into vector
-// instructions.
+// Does the symbol stand in the part?
+// Stays a loop: `contains` leaves where the symbol stands, and a long row without it takes nearly three times as long.
 fn stands_in(part: &[u16], s: u16) -> bool
     ensures { result ≡ false → Without part.now s 0 (length part.now) }
 {
-    let mut hits: u16 = 0;
-    for k in 0..part.len() {
-        if part[k] == s {
-            hits = 1;
+    let mut hits = false;
+    for &x in part {
+        if x == s {
+            hits = true;
         }
     }
-    hits == 1
+    hits
 }
 
 // The positions that a search takes at once.
@@ -90,14 +84,14 @@ fn pass_over(row: &[u16], s: u16, from: usize) -> usize
     requires { (from ≤ length row.now) × (length row.now ≤ row_most) }
     ensures { (from ≤ result) × (result ≤ length row.now) × Without row.now s from result }
 {
-    let mut p = from;
-    while p + STRETCH <= row.len() {
+    let stretches = (row.len() - from) / STRETCH;
+    for k in 0..stretches {
+        let p = from + k * STRETCH;
         if stands_in(&row[p..p + STRETCH], s) {
             return p;
         }
-        p += STRETCH;
     }
-    p
+    from + stretches * STRETCH
 }
 
 // The positions from `from` up to `to` where the pattern can match, at the front of `places`, and their number. Each is written
@@ -116,6 +110,7 @@ fn write_candidates(
 {
     let mut many = 0;
     for p in from..to {
+        // Stays `as`, here and below: the number fits, as a contract says, and `try_from` would answer an error that no call can give.
         places[many] = p as u16;
         if may_match(row, table, root, size, p) {
             many += 1;
@@ -124,53 +119,55 @@ fn write_candidates(
     many
 }
 
-// All of the places are matches: they are written to `out` from place `before` on. Answers the place behind them.
-fn keep_all(places: &[u16; STRETCH], many: usize, out: &mut [u16], before: usize) -> usize
-    requires { (many ≤ 64) × (length places.now ≡ 64) × (before + many ≤ length out.old) }
-    ensures { (result ≡ before + many) × (out.new ≡ written out.old before (take many places.now)) }
+// Those of the places that pass the test, at the front of `out`, and their number.
+fn keep<F: Fn(u16) -> bool>(places: &[u16], out: &mut [u16], passes: F) -> usize
+    requires room { length places.now ≤ length out.old }
+    requires asked { (i : ℕ) → i < length places.now → F.pre passes (get_or places.now i 0) }
+    ensures { (test : ℕ → Bool) → ((i : ℕ) (r : Bool) → i < length places.now → F.post passes (get_or places.now i 0) r → r ≡ test (get_or places.now i 0)) → Kept test places.now out.old 0 result out.new }
 {
-    for i in 0..many {
-        out[before + i] = places[i];
+    let mut count = 0;
+    for &p in places {
+        if passes(p) {
+            out[count] = p;
+            count += 1;
+        }
     }
-    before + many
+    count
 }
 
-// Those of the places where the pattern matches are written to `out` from place `before` on. Answers the place behind them. A
-// number of the pattern that does not fit sends the search to the next place.
+// Those of the places where the pattern matches, at the front of `out`, and their number. At each a walk goes along the numbers of the
+// pattern before place `compared`, since only S stand behind; as many of the first as stand there too are passed in eights. A number
+// that does not fit sends the search to the next place.
 fn keep_matches(
-    row: &[u16],
-    table: &[u16],
-    classes: &[u16],
+    programme: Programme,
     pattern: &[u16],
     compared: usize,
-    places: &[u16; STRETCH],
-    many: usize,
+    places: &[u16],
     out: &mut [u16],
-    before: usize,
 ) -> usize
-    requires { Keepable (programme row.now table.now classes.now) pattern.now compared places.now many × (many ≤ 64) × (length places.now ≡ 64) × (before + many ≤ length out.old) }
-    ensures { Kept (comes_through row.now table.now pattern.now) (take many places.now) out.old before result out.new }
+    requires walkable { Walkable (programme_of programme) pattern.now compared }
+    requires within { (i : ℕ) → i < length places.now → get_or places.now i 0 < length programme.row.now }
+    requires room { length places.now ≤ length out.old }
+    ensures { Kept (comes_through programme.entry.row.now programme.entry.table.now pattern.now) places.now out.old 0 result out.new }
 {
-    let mut count = before;
-    'places: for i in 0..many {
-        let p = places[i] as usize;
+    let mut count = 0;
+    'places: for &place in places {
+        let p = usize::from(place);
         let mut marks = [0u16; patterns::MARKS];
-        let most = rows::shorter(compared, row.len() - p);
-        let alike = patterns::count_eights(pattern, 0, row, p, most);
+        let most = compared.min(programme.row.len() - p);
+        let alike = patterns::count_eights(pattern, 0, programme.row, p, most);
         let mut j = p + alike;
-        for k in alike..compared {
-            let s = pattern[k];
-            if patterns::same(row[j], s) {
+        for &s in &pattern[alike..compared] {
+            if programme.row[j] == s {
                 j += 1;
             } else {
-                let found = patterns::step(row, table, classes, s, j, &mut marks);
-                let Stepped::To(next) = found else {
+                let Some(next) = patterns::step(programme, s, j, &mut marks) else {
                     continue 'places;
                 };
                 j = next;
             }
         }
-        out[count] = p as u16;
+        out[count] = place;
         count += 1;
     }
     count
@@ -180,73 +177,54 @@ fn keep_matches(
 fn is_twin(pattern: &[u16]) -> bool
     ensures { result ≡ true → Twin pattern.now }
 {
-    if pattern.len() == 3 {
-        if pattern[2] == pattern[1] {
-            return rows::is_variable(pattern[1]);
-        }
-    }
-    false
+    pattern.len() == 3 && pattern[2] == pattern[1] && rows::is_variable(pattern[1])
 }
 
-// The same as `keep_matches` for such a pattern: the classes of the two subtrees at each place are compared, with no walk.
-fn keep_twins(
-    table: &[u16],
-    classes: &[u16],
-    places: &[u16; STRETCH],
-    many: usize,
-    out: &mut [u16],
-    before: usize,
-) -> usize
-    requires { Paired table.now classes.now places.now many × (many ≤ 64) × (length places.now ≡ 64) × (before + many ≤ length out.old) }
-    ensures { Kept (twins table.now classes.now) (take many places.now) out.old before result out.new }
+// Does such a pattern match at p? The classes of the two subtrees there are compared, with no walk.
+fn are_twins(table: &[u16], classes: &[u16], p: u16) -> bool
+    requires { Paired table.now classes.now p }
+    ensures { result ≡ twins table.now classes.now p }
 {
-    let mut count = before;
-    for i in 0..many {
-        let p = places[i];
-        let first = p as usize + 1;
-        if classes[first] == classes[table[first] as usize] {
-            out[count] = p;
-            count += 1;
-        }
-    }
-    count
+    let first = usize::from(p) + 1;
+    classes[first] == classes[usize::from(table[first])]
 }
 
-// The matches from `from` up to `to`, of a pattern whose root is a symbol, are written to `out` from place `before` on. Answers
-// the place behind them. Where the root alone is compared, each candidate is a match.
+// The matches from `from` up to `to`, of a pattern whose root is a symbol, at the front of `out`, and their number. Where the root
+// alone is compared, each candidate is a match.
 fn list_within(
-    row: &[u16],
-    table: &[u16],
-    classes: &[u16],
+    programme: Programme,
     pattern: &[u16],
     outline: Outline,
     from: usize,
     to: usize,
     out: &mut [u16],
-    before: usize,
 ) -> usize
-    requires { Seekable (programme row.now table.now classes.now) pattern.now outline × Stretched from to (length row.now) × (before + (to - from) ≤ length out.old) }
-    ensures { Kept (comes_through row.now table.now pattern.now) (range from (to - from)) out.old before result out.new }
+    requires { Seekable (programme_of programme) pattern.now outline × Stretched from to (length programme.row.now) × (to - from ≤ length out.old) }
+    ensures { Kept (comes_through programme.entry.row.now programme.entry.table.now pattern.now) (range from (to - from)) out.old 0 result out.new }
 {
-    let mut places = [0u16; STRETCH];
-    let many = write_candidates(row, table, pattern[0], outline.size, from, to, &mut places);
+    let mut room = [0u16; STRETCH];
+    let many = write_candidates(
+        programme.row,
+        programme.table,
+        pattern[0],
+        outline.size,
+        from,
+        to,
+        &mut room,
+    );
+    let places = &room[..many];
     if outline.compared == 1 {
-        return keep_all(&places, many, out, before);
+        out[..many].copy_from_slice(places);
+        return many;
     }
     if is_twin(pattern) {
-        return keep_twins(table, classes, &places, many, out, before);
+        return keep(
+            places,
+            out,
+            |p| are_twins(programme.table, programme.classes, p),
+        );
     }
-    keep_matches(
-        row,
-        table,
-        classes,
-        pattern,
-        outline.compared,
-        &places,
-        many,
-        out,
-        before,
-    )
+    keep_matches(programme, pattern, outline.compared, places, out)
 }
 
 // Is S or a variable all of the pattern? Then it matches everywhere.
@@ -254,37 +232,34 @@ fn is_bare(pattern: &[u16]) -> bool
     requires { 0 < length pattern.now }
     ensures { BareIs pattern.now result }
 {
-    let kind = patterns::leaf_of(pattern[0]);
-    match kind {
+    match patterns::leaf_of(pattern[0]) {
         Leaf::Plain => false,
-        Leaf::Blank => true,
-        Leaf::Variable(_) => true,
+        Leaf::Blank | Leaf::Variable(_) => true,
     }
 }
 
-// The first match.
-pub fn first_match(row: &[u16], table: &[u16], classes: &[u16], pattern: &[u16]) -> Next
-    requires { Searchable (programme row.now table.now classes.now) pattern.now }
-    ensures { (a : Alphabet) → Checked a (programme row.now table.now classes.now) pattern.now → NextIs a row.now pattern.now 0 (length row.now) result }
+// The first match; `None` where there is none.
+pub fn first_match(programme: Programme, pattern: &[u16]) -> Option<usize>
+    requires { Searchable (programme_of programme) pattern.now }
+    ensures { (a : Alphabet) → Checked a (programme_of programme.entry) pattern.now → NextIs a programme.entry.row.now pattern.now 0 (length programme.entry.row.now) result }
 {
     if is_bare(pattern) {
-        return Next::At(0);
+        return Some(0);
     }
     let outline = outline_of(pattern);
     let mut found = [0u16; STRETCH];
     let mut p = 0;
-    while p < row.len() {
-        let from = pass_over(row, pattern[0], p);
-        let to = rows::shorter(from + STRETCH, row.len());
-        let many = list_within(
-            row, table, classes, pattern, outline, from, to, &mut found, 0,
-        );
+    // Stays a loop by index: a turn begins at the next place where the pattern can stand.
+    while p < programme.row.len() {
+        let from = pass_over(programme.row, pattern[0], p);
+        let to = (from + STRETCH).min(programme.row.len());
+        let many = list_within(programme, pattern, outline, from, to, &mut found);
         if 0 < many {
-            return Next::At(found[0] as usize);
+            return Some(usize::from(found[0]));
         }
         p = to;
     }
-    Next::Nowhere
+    None
 }
 
 // The first n positions, at the front of `out`.
@@ -298,110 +273,72 @@ fn write_positions(n: usize, out: &mut [u16])
 }
 
 // The matches, rising, at the front of `out`, which is as long as the row or longer, and their number.
-pub fn write_matches(
-    row: &[u16],
-    table: &[u16],
-    classes: &[u16],
-    pattern: &[u16],
-    out: &mut [u16],
-) -> usize
-    requires { Searchable (programme row.now table.now classes.now) pattern.now × (length row.now ≤ length out.old) }
-    ensures { (a : Alphabet) → Checked a (programme row.now table.now classes.now) pattern.now → Lists a row.now pattern.now out.old (All result) out.new }
+pub fn write_matches(programme: Programme, pattern: &[u16], out: &mut [u16]) -> usize
+    requires { Searchable (programme_of programme) pattern.now × (length programme.row.now ≤ length out.old) }
+    ensures { (a : Alphabet) → Checked a (programme_of programme.entry) pattern.now → Lists a programme.entry.row.now pattern.now out.old (Ok result) out.new }
 {
+    let n = programme.row.len();
     if is_bare(pattern) {
-        write_positions(row.len(), out);
-        return row.len();
+        write_positions(n, out);
+        return n;
     }
     let outline = outline_of(pattern);
     let mut count = 0;
     let mut p = 0;
-    while p < row.len() {
-        let from = pass_over(row, pattern[0], p);
-        let to = rows::shorter(from + STRETCH, row.len());
-        count = list_within(row, table, classes, pattern, outline, from, to, out, count);
+    // Stays a loop by index: a turn begins at the next place where the pattern can stand.
+    while p < n {
+        let from = pass_over(programme.row, pattern[0], p);
+        let to = (from + STRETCH).min(n);
+        count += list_within(programme, pattern, outline, from, to, &mut out[count..]);
         p = to;
     }
     count
 }
 
-// What listing the matches does: all are written, so many; or nothing is, since so many places are needed.
-#[derive(Clone, Copy)]
-pub enum Listing {
-    All(usize),
-    Needs(usize),
-}
-
-// The matches, rising, at the front of `out` if it has room for all of them; else nothing is written. They are gathered in `room`
-// first.
-fn list_by(
-    row: &[u16],
-    table: &[u16],
-    classes: &[u16],
+// The matches, rising, at the front of `out` if it has room for all of them, and their number; else nothing is written, and `Err` says
+// how many they are. They are gathered first, in a room for a row of N symbols, which is not inlined, so that a search that needs
+// none does not pay for it.
+#[inline(never)]
+fn list_in<const N: usize>(
+    programme: Programme,
     pattern: &[u16],
     out: &mut [u16],
-    room: &mut [u16],
-) -> Listing
-    requires { Searchable (programme row.now table.now classes.now) pattern.now × (length row.now ≤ length room.old) }
-    ensures { (a : Alphabet) → Checked a (programme row.now table.now classes.now) pattern.now → Lists a row.now pattern.now out.old result out.new }
+) -> Result<usize, usize>
+    requires { Searchable (programme_of programme) pattern.now × (length programme.row.now ≤ N) × (N < 65536) }
+    ensures { (a : Alphabet) → Checked a (programme_of programme.entry) pattern.now → Lists a programme.entry.row.now pattern.now out.old result out.new }
 {
-    let count = write_matches(row, table, classes, pattern, room);
+    let mut room = [0u16; N];
+    let count = write_matches(programme, pattern, &mut room);
     if out.len() < count {
-        return Listing::Needs(count);
+        return Err(count);
     }
     buffers::copy_into(out, &room[..count]);
-    Listing::All(count)
+    Ok(count)
 }
 
-// The same, with room for a longer row.
-fn list_far(
-    row: &[u16],
-    table: &[u16],
-    classes: &[u16],
-    pattern: &[u16],
-    out: &mut [u16],
-) -> Listing
-    requires { Searchable (programme row.now table.now classes.now) pattern.now }
-    ensures { (a : Alphabet) → Checked a (programme row.now table.now classes.now) pattern.now → Lists a row.now pattern.now out.old result out.new }
+// The same. Only a buffer shorter than the row can be too short, and only there they are gathered first. A shorter row takes less
+// room.
+pub fn list_matches(programme: Programme, pattern: &[u16], out: &mut [u16]) -> Result<usize, usize>
+    requires { Searchable (programme_of programme) pattern.now }
+    ensures { (a : Alphabet) → Checked a (programme_of programme.entry) pattern.now → Lists a programme.entry.row.now pattern.now out.old result out.new }
 {
-    if row.len() <= tables::FAIR {
-        let mut room = tables::fair_room();
-        return list_by(row, table, classes, pattern, out, &mut room);
+    let n = programme.row.len();
+    // Stays a choice among sizes: a const argument can't be computed, and the memory is fixed.
+    if n <= out.len() {
+        Ok(write_matches(programme, pattern, out))
+    } else if n <= tables::SHORT {
+        list_in::<{ tables::SHORT }>(programme, pattern, out)
+    } else if n <= tables::FAIR {
+        list_in::<{ tables::FAIR }>(programme, pattern, out)
+    } else if n <= tables::MIDDLE {
+        list_in::<{ tables::MIDDLE }>(programme, pattern, out)
+    } else {
+        list_in::<{ rows::ROW_MOST }>(programme, pattern, out)
     }
-    if row.len() <= tables::MIDDLE {
-        let mut room = tables::middle_room();
-        return list_by(row, table, classes, pattern, out, &mut room);
-    }
-    let mut room = tables::long_room();
-    list_by(row, table, classes, pattern, out, &mut room)
-}
-
-// The same. Only a buffer shorter than the row can be too short, and only there they are gathered first. The function that makes larger
-// rooms is called from two places, and so the compiler keeps them out of the stack of a search that does without.
-pub fn list_matches(
-    row: &[u16],
-    table: &[u16],
-    classes: &[u16],
-    pattern: &[u16],
-    out: &mut [u16],
-) -> Listing
-    requires { Searchable (programme row.now table.now classes.now) pattern.now }
-    ensures { (a : Alphabet) → Checked a (programme row.now table.now classes.now) pattern.now → Lists a row.now pattern.now out.old result out.new }
-{
-    if row.len() <= out.len() {
-        let count = write_matches(row, table, classes, pattern, out);
-        return Listing::All(count);
-    }
-    if tables::MIDDLE < row.len() {
-        return list_far(row, table, classes, pattern, out);
-    }
-    if tables::SHORT < row.len() {
-        return list_far(row, table, classes, pattern, out);
-    }
-    let mut room = tables::short_room();
-    list_by(row, table, classes, pattern, out, &mut room)
 }
 
 // Begin and end of the subtree that a mark stands for.
+// Stays a choice: a mark of 0 says that the variable stands nowhere, as in specs/.
 fn mark_begin(m: u16) -> u16
     ensures { result ≡ mark_begin m }
 {
@@ -412,11 +349,7 @@ fn mark_end(table: &[u16], m: u16) -> u16
     requires { m ≤ length table.now }
     ensures { result ≡ mark_end table.now m }
 {
-    if m == 0 {
-        return 0;
-    }
-    let a = (m - 1) as usize;
-    table[a]
+    if m == 0 { 0 } else { table[usize::from(m - 1)] }
 }
 
 // Begin, then end, of each variable at the front of `out`.
@@ -431,33 +364,29 @@ fn write_spans(table: &[u16], marks: [u16; patterns::MARKS], out: &mut [u16])
     }
 }
 
-// Does the pattern match at p? If it does, the spans of its variables are written at the front of `out`; if not, the answer
-// says where the walk fails.
+// Does the pattern match at p? If it does, the spans of its variables are written at the front of `out`; if not, `Err` says where the
+// walk fails: at which place of the pattern, and at which position of the row.
 pub fn variables_at(
-    row: &[u16],
-    table: &[u16],
-    classes: &[u16],
+    programme: Programme,
     pattern: &[u16],
     p: usize,
     out: &mut [u16],
-) -> Walked
-    requires { Searchable (programme row.now table.now classes.now) pattern.now × (p < length row.now) × (variables + variables ≤ length out.old) }
-    ensures { (a : Alphabet) → Checked a (programme row.now table.now classes.now) pattern.now → VariablesAt a row.now pattern.now p out.old result out.new }
+) -> Result<(), (usize, usize)>
+    requires { Searchable (programme_of programme) pattern.now × (p < length programme.row.now) × (variables + variables ≤ length out.old) }
+    ensures { (a : Alphabet) → Checked a (programme_of programme.entry) pattern.now → VariablesAt a programme.entry.row.now pattern.now p out.old result out.new }
 {
     let mut marks = [0u16; patterns::MARKS];
     let mut j = p;
-    for k in 0..pattern.len() {
-        let s = pattern[k];
-        if patterns::same(row[j], s) {
+    for (k, &s) in pattern.iter().enumerate() {
+        if programme.row[j] == s {
             j += 1;
         } else {
-            let found = patterns::step(row, table, classes, s, j, &mut marks);
-            match found {
-                Stepped::To(next) => j = next,
-                Stepped::Miss => return patterns::miss_at(row, table, k, s, j, &marks),
+            match patterns::step(programme, s, j, &mut marks) {
+                Some(next) => j = next,
+                None => return Err(patterns::miss_at(programme, k, s, j, &marks)),
             }
         }
     }
-    write_spans(table, marks, out);
-    Walked::Through
+    write_spans(programme.table, marks, out);
+    Ok(())
 }

@@ -2,14 +2,14 @@
 // What it reads and writes is the work of `seek_text`; here the bytes come in and go out.
 #![tactic(auto)]
 
-ghost use Rattle.std.specs.Prelude.{◌≡◌, ◌+◌, ◌≤◌, List, ℕ, OnOk, length, take};
+ghost use Rattle.std.specs.Prelude.{◌≤◌, List, ℕ, OnOk, length};
 ghost use Rattle.std.specs.Io.KnownBytes.{Appends, Consumes};
 ghost use Rattle.seek_print.specs.Inside.{line_most};
-ghost use Rattle.seek_text.specs.Seek.{input_most, joined, Prints};
+ghost use Rattle.seek_text.specs.Seek.{joined, Prints};
 ghost use Rattle.seek_text.specs.Pages.{lines_of};
-ghost use Rattle.seek_text.specs.Inside.{Printable, numbers_most};
+ghost use Rattle.seek_text.specs.Inside.{Printable};
 
-use seek_text::{INPUT_MOST, NUMBERS_MOST, Response};
+use seek_text::{INPUT_MOST, NUMBERS_MOST, Told};
 use std::io;
 use std::io::{Read, Write};
 
@@ -19,45 +19,17 @@ const INPUT_ROOM: usize = INPUT_MOST + 1;
 // Room for a page.
 const PAGE_ROOM: usize = 65536;
 
-fn input_room() -> [u8; INPUT_ROOM]
-    ensures { input_most + 1 ≡ length result }
-{
-    [0u8; INPUT_ROOM]
-}
-
-// Room for the numbers of the longest input.
-fn numbers_room() -> [u16; NUMBERS_MOST]
-    ensures { numbers_most ≡ length result }
-{
-    [0u16; NUMBERS_MOST]
-}
-
-// The first n bytes go out.
-fn write_out<W: Write>(to: &mut W, out: &[u8], n: usize) -> io::Result<()>
-    requires { n ≤ length out.now }
-    ensures { OnOk result (Appends (W.contents to.old) (W.contents to.new) (take n out.now)) }
-{
-    to.write_all(&out[..n])
-}
-
 // The text of a response goes out, page by page, as long as each page goes out whole.
-fn write_text<W: Write>(
-    to: &mut W,
-    response: Response,
-    numbers: &[u16],
-    table: &[u16],
-    classes: &[u16],
-    positions: &[u16],
-    out: &mut [u8],
-) -> io::Result<()>
-    requires { Printable response numbers.now table.now classes.now positions.now × (line_most ≤ length out.old) }
-    ensures { OnOk result (Appends (W.contents to.old) (W.contents to.new) (joined (lines_of response numbers.now positions.now))) }
+fn write_text<W: Write>(to: &mut W, told: Told, out: &mut [u8]) -> io::Result<()>
+    requires { Printable told.response told.numbers.now told.table.now told.classes.now told.positions.now × (line_most ≤ length out.old) }
+    ensures { OnOk result (Appends (W.contents to.old) (W.contents to.new) (joined (lines_of told.entry.response told.entry.numbers.now told.entry.positions.now))) }
 {
-    let count = seek_text::line_count(response);
+    let count = seek_text::line_count(told.response);
     let mut first = 0;
+    // Stays a loop by index: the page says which line the next one begins with.
     while first < count {
-        let page = seek_text::print_page(response, numbers, table, classes, positions, first, out);
-        write_out(to, out, page.bytes)?;
+        let page = told.print_page(first, out);
+        to.write_all(&out[..page.bytes])?;
         first = page.next;
     }
     Ok(())
@@ -68,10 +40,10 @@ fn respond<W: Write>(to: &mut W, input: &[u8], out: &mut [u8]) -> io::Result<()>
     requires { line_most ≤ length out.old }
     ensures { OnOk result ((z : List ℕ) × Prints input.now z × Appends (W.contents to.old) (W.contents to.new) z) }
 {
-    let mut numbers = numbers_room();
-    let mut table = tables::long_room();
-    let mut classes = tables::long_room();
-    let mut positions = tables::long_room();
+    let mut numbers = [0u16; NUMBERS_MOST];
+    let mut table = [0u16; rows::ROW_MOST];
+    let mut classes = [0u16; rows::ROW_MOST];
+    let mut positions = [0u16; rows::ROW_MOST];
     let response = seek_text::answer_input(
         input,
         &mut numbers,
@@ -79,14 +51,21 @@ fn respond<W: Write>(to: &mut W, input: &[u8], out: &mut [u8]) -> io::Result<()>
         &mut classes,
         &mut positions,
     );
-    write_text(to, response, &numbers, &table, &classes, &positions, out)
+    let told = Told {
+        response,
+        numbers: &numbers,
+        table: &table,
+        classes: &classes,
+        positions: &positions,
+    };
+    write_text(to, told, out)
 }
 
 // What `seek` prints for the bytes that it reads.
 fn seek<R: Read, W: Write>(from: &mut R, to: &mut W) -> io::Result<()>
     ensures { OnOk result ((b z : List ℕ) × Consumes (R.remaining from.old) (R.remaining from.new) b × Prints b z × Appends (W.contents to.old) (W.contents to.new) z) }
 {
-    let mut input = input_room();
+    let mut input = [0u8; INPUT_ROOM];
     let n = script::read_full(from, &mut input);
     let mut out = [0u8; PAGE_ROOM];
     respond(to, &input[..n], &mut out)

@@ -3,72 +3,72 @@
 
 ghost use Rattle.std.specs.Prelude.{◌+◌, ◌≤◌, length};
 ghost use Rattle.rows.specs.Limits.{variables};
-ghost use Rattle.decimal.specs.Inside.{Printed};
+ghost use Rattle.decimal.specs.Printing.{Put};
 ghost use Rattle.seek_print.specs.Print.{refusal_text, count_text, span_text, spans_text, match_text};
 ghost use Rattle.seek_print.specs.Inside.{span_most, spans_most, line_most};
 
+use decimal::Printer;
 use rows::Refusal;
 
 // How many variables there are.
+// Stays `as`: a constant is computed without calls.
 const VARIABLES: usize = rows::VARIABLES as usize;
 // The most bytes of a line.
 pub const LINE_MOST: usize = 1053;
 
-// `refused N P`, into a buffer that has room for a line.
-pub fn put_refusal(out: &mut [u8], at: usize, refusal: Refusal) -> usize
-    requires { at + line_most ≤ length out.old }
-    ensures { Printed out.old at (refusal_text refusal) result out.new × (result ≤ at + line_most) }
+// `refused N P`, where the buffer has room for a line.
+pub fn put_refusal(to: &mut Printer, refusal: Refusal)
+    requires { to.old.at + line_most ≤ length to.old.out.now }
+    ensures { Put to.old (refusal_text refusal) to.new × (to.new.at ≤ to.old.at + line_most) }
 {
-    let number = decimal::put_bytes(out, at, b"refused");
-    let place = decimal::put_marked(out, number, b' ', refusal_numbers::number_of(refusal));
-    let end = decimal::put_marked(out, place, b' ', refusal_numbers::place_of(refusal));
-    decimal::put_byte(out, end, b'\n')
+    to.put_bytes(b"refused");
+    to.put_marked(b' ', refusal_numbers::number_of(refusal));
+    to.put_marked(b' ', refusal_numbers::place_of(refusal));
+    to.put_byte(b'\n');
 }
 
-// `matches K`, into a buffer that has room for a line.
-pub fn put_count(out: &mut [u8], at: usize, count: usize) -> usize
-    requires { at + line_most ≤ length out.old }
-    ensures { Printed out.old at (count_text count) result out.new × (result ≤ at + line_most) }
+// `matches K`, where the buffer has room for a line.
+pub fn put_count(to: &mut Printer, count: usize)
+    requires { to.old.at + line_most ≤ length to.old.out.now }
+    ensures { Put to.old (count_text count) to.new × (to.new.at ≤ to.old.at + line_most) }
 {
-    let number = decimal::put_bytes(out, at, b"matches");
-    let end = decimal::put_marked(out, number, b' ', count);
-    decimal::put_byte(out, end, b'\n')
+    to.put_bytes(b"matches");
+    to.put_marked(b' ', count);
+    to.put_byte(b'\n');
 }
 
 // ` V:B-E`, for a variable that the pattern has; nothing for one that it lacks.
-#[tactic(auto, using(decimal::proofs::Writing::printed_none), unfolding(crate::specs::Print::span_text))]
-fn put_span(out: &mut [u8], at: usize, variable: usize, begin: u16, end: u16) -> usize
-    requires { at + span_most ≤ length out.old }
-    ensures { Printed out.old at (span_text variable begin end) result out.new × (result ≤ at + span_most) }
+#[tactic(auto, using(decimal::proofs::Putting::put_none), unfolding(crate::specs::Print::span_text))]
+fn put_span(to: &mut Printer, variable: usize, begin: u16, end: u16)
+    requires { to.old.at + span_most ≤ length to.old.out.now }
+    ensures { Put to.old (span_text variable begin end) to.new × (to.new.at ≤ to.old.at + span_most) }
 {
     if end == 0 {
-        return at;
+        return;
     }
-    let first = decimal::put_marked(out, at, b' ', variable);
-    let last = decimal::put_marked(out, first, b':', begin as usize);
-    decimal::put_marked(out, last, b'-', end as usize)
+    to.put_marked(b' ', variable);
+    to.put_marked(b':', usize::from(begin));
+    to.put_marked(b'-', usize::from(end));
 }
 
 // The spans of the variables, rising.
-fn put_spans(out: &mut [u8], at: usize, spans: &[u16]) -> usize
-    requires { (at + spans_most ≤ length out.old) × (variables + variables ≤ length spans.now) }
-    ensures { Printed out.old at (spans_text spans.now variables) result out.new × (result ≤ at + spans_most) }
+fn put_spans(to: &mut Printer, spans: &[u16])
+    requires { (to.old.at + spans_most ≤ length to.old.out.now) × (variables + variables ≤ length spans.now) }
+    ensures { Put to.old (spans_text spans.now variables) to.new × (to.new.at ≤ to.old.at + spans_most) }
 {
-    let mut end = at;
     for v in 0..VARIABLES {
-        end = put_span(out, end, v, spans[v + v], spans[v + v + 1]);
+        put_span(to, v, spans[v + v], spans[v + v + 1]);
     }
-    end
 }
 
-// `at P E` and the spans: the line of a match, into a buffer that has room for a line.
-pub fn put_match(out: &mut [u8], at: usize, position: u16, end: u16, spans: &[u16]) -> usize
-    requires { (at + line_most ≤ length out.old) × (variables + variables ≤ length spans.now) }
-    ensures { Printed out.old at (match_text position end spans.now) result out.new × (result ≤ at + line_most) }
+// `at P E` and the spans: the line of a match, where the buffer has room for a line.
+pub fn put_match(to: &mut Printer, position: u16, end: u16, spans: &[u16])
+    requires { (to.old.at + line_most ≤ length to.old.out.now) × (variables + variables ≤ length spans.now) }
+    ensures { Put to.old (match_text position end spans.now) to.new × (to.new.at ≤ to.old.at + line_most) }
 {
-    let first = decimal::put_bytes(out, at, b"at");
-    let second = decimal::put_marked(out, first, b' ', position as usize);
-    let variables = decimal::put_marked(out, second, b' ', end as usize);
-    let last = put_spans(out, variables, spans);
-    decimal::put_byte(out, last, b'\n')
+    to.put_bytes(b"at");
+    to.put_marked(b' ', usize::from(position));
+    to.put_marked(b' ', usize::from(end));
+    put_spans(to, spans);
+    to.put_byte(b'\n');
 }

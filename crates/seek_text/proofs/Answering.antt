@@ -8,13 +8,13 @@ use lib.ListN.{length, take, drop, length-append}
 use lib.Seq.{take_at, drop_at, drop-drop, length-take-le}
 use Rattle.rows.specs.Buffers.{written}
 use Rattle.rows.specs.declared.Refusal.{Refusal}
-use Rattle.rows.specs.declared.Check.TheVariants as check
+use Rattle.std.specs.Prelude.{Ok, Err}
 use Rattle.rows.proofs.Buffers.{length-written}
 use Rattle.seek_print.specs.Print.{refusal_text, count_text}
 use Rattle.seek_text.specs.Seek.{Says, seek_check, line_text, joined, Prints, Prints.lists_refused, Prints.lists_searched}
 use Rattle.seek_text.specs.Pages.{Answered}
 use Rattle.seek_text.specs.Inside.{ListsRead, MatchesFound, Printable}
-use Rattle.seek_text.specs.declared.search.Response.TheVariants.{Matches}
+use Rattle.seek_text.specs.declared.search.Found.{Found}
 
 -- a refusal is one line
 pub one_line_printed : (b : List ℕ) (r : Refusal) → Prints b (refusal_text r) → Prints b (joined (refusal_text r ∷ []))
@@ -58,10 +58,14 @@ module _ (b y : List ℕ) (a e p : ℕ) (n : List ℕ) (l : ListsRead b y a e p 
   said : Says b (take a n) (take (e - a) (drop a n)) (take (p - e) (drop e n))
   said = rw (arities_part, row_part, pattern_part) l.says
 
-  pub answer_refused : (r : Refusal) → seek_check (take a n) (take (e - a) (drop a n)) (take (p - e) (drop e n)) ≡ check.Refused r → Prints b (joined (refusal_text r ∷ []))
+  pub answer_refused : (r : Refusal) → seek_check (take a n) (take (e - a) (drop a n)) (take (p - e) (drop e n)) ≡ Err r → Prints b (joined (refusal_text r ∷ []))
   answer_refused r h = one_line_printed b r (lists_refused (take a n) (take (e - a) (drop a n)) (take (p - e) (drop e n)) l.short said h)
 
-  pub answer_found : (k : ℕ) (t c z : List ℕ) → MatchesFound (take a n) (take (e - a) (drop a n)) (take (p - e) (drop e n)) k t c z → Answered b (Matches a e p k) n z × Printable (Matches a e p k) n t c z
+  -- the lists, and k matches
+  abbrev found : ℕ → Found
+  found k = record { lists = record { arities = a; row = e; pattern = p }; count = k }
+
+  pub answer_found : (k : ℕ) (t c z : List ℕ) → MatchesFound (take a n) (take (e - a) (drop a n)) (take (p - e) (drop e n)) k t c z → Answered b (Ok (found k)) n z × Printable (Ok (found k)) n t c z
   unfolding joined
   answer_found k t c z m =
       let s = places in

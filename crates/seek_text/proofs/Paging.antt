@@ -1,5 +1,6 @@
 -- The lines of a response: the line of a match, one line more on a page, and the whole page by page.
 -- Assumes nothing.
+use Rattle.std.specs.Prelude.{Result, Ok, Err, ⊤}
 use Prim.Native.Nat.{ℕ, zero, suc, ◌+◌, ◌-◌, ◌≤◌, ◌<◌}
 use mathlib.Core.Path.{◌≡◌, refl, sym, ap, ◌∙◌}
 use mathlib.Core.List.{List, [], ◌∷◌, ◌++◌, append_assoc, append-nil, map}
@@ -13,8 +14,6 @@ use Rattle.rows.specs.Programme.{Alphabet, alphabet_of}
 use Rattle.rows.specs.Buffers.{written}
 use Rattle.rows.proofs.Buffers.{written-front}
 use Rattle.patterns.specs.Answers.{MatchesAt, spans}
-use Rattle.patterns.specs.declared.Walked.{Walked}
-use Rattle.patterns.specs.declared.Walked.TheVariants.{Through, Fails}
 use Rattle.patterns.proofs.Promises.{spans_long}
 use Rattle.searches.specs.Searches.{VariablesAt}
 use Rattle.patterns.proofs.Listing.{mem_at}
@@ -24,16 +23,16 @@ use Rattle.seek_print.specs.Inside.{line_most}
 use Rattle.seek_text.specs.Seek.{line_text, joined}
 use Rattle.seek_text.specs.Pages.{lines_of, PagePrinted, Pages, Pages.done, Pages.page}
 use Rattle.seek_text.specs.Inside.{Holds}
-use Rattle.seek_text.specs.declared.search.Response.TheVariants.{Matches}
+use Rattle.seek_text.specs.declared.search.Found.{Found}
 
 -- at a match the spans fill a buffer that has begin and end of each variable
-pub spans_fill : (a : Alphabet) (w q : List ℕ) (p : ℕ) (y : List ℕ) (r : Walked) (y' : List ℕ) → length y ≡ span_places → MatchesAt a w q p → VariablesAt a w q p y r y'
+pub spans_fill : (a : Alphabet) (w q : List ℕ) (p : ℕ) (y : List ℕ) (r : Result ⊤ (ℕ × ℕ)) (y' : List ℕ) → length y ≡ span_places → MatchesAt a w q p → VariablesAt a w q p y r y'
     → y' ≡ spans a.arities w q p
 unfolding written
-spans_fill a w q p y Through y' h m b =
+spans_fill a w q p y (Ok _) y' h m b =
     let s = spans a.arities w q p in
     b.buffer ∙ rw (drop_of_length-le y {i = 0 + length s} (omega (arith, spans_long a.arities w q p)), append-nil s)
-spans_fill a w q p y (Fails k j) y' h m b = absurd (b.answer.0 m)
+spans_fill a w q p y (Err (k, j)) y' h m b = absurd (b.answer.0 m)
 
 length-map : (f : ℕ → List ℕ) (ps : List ℕ) → length (map f ps) ≡ length ps
 length-map f [] = refl
@@ -44,16 +43,28 @@ get_d_map f [] i h = absurd (omega arith)
 get_d_map f (p ∷ ps) zero h = refl
 get_d_map f (p ∷ ps) (suc i) h = get_d_map f ps i (omega arith)
 
-module _ (a e p k : ℕ) (n t c y : List ℕ) (h : Holds a e p k n t c y) where
+module _ (f : Found) (n t c y : List ℕ) (h : Holds f n t c y) where
+  abbrev a : ℕ
+  a = f.lists.arities
+
+  abbrev e : ℕ
+  e = f.lists.row
+
+  abbrev p : ℕ
+  p = f.lists.pattern
+
+  abbrev k : ℕ
+  k = f.count
+
   -- the count and the matches
-  pub lines_many : length (lines_of (Matches a e p k) n y) ≡ k + 1
+  pub lines_many : length (lines_of (Ok f) n y) ≡ k + 1
   lines_many = ap suc (length-map _ (take k y) ∙ length-take-le k y h.count) ∙ sym (add-one k)
 
   -- a line that is not the first is a match's: its position stands in the buffer, and the pattern matches there
   pub record Located (i : ℕ) : Type 0 where
     pub within : get_or y (i - 1) 0 < length (take (e - a) (drop a n))
     pub matches : MatchesAt (alphabet_of (take a n)) (take (e - a) (drop a n)) (take (p - e) (drop e n)) (get_or y (i - 1) 0)
-    pub line : get_or (lines_of (Matches a e p k) n y) i [] ≡ line_text (take a n) (take (e - a) (drop a n)) (take (p - e) (drop e n)) (get_or y (i - 1) 0)
+    pub line : get_or (lines_of (Ok f) n y) i [] ≡ line_text (take a n) (take (e - a) (drop a n)) (take (p - e) (drop e n)) (get_or y (i - 1) 0)
 
   pub located : (i : ℕ) → 0 < i → i ≤ k → Located i
   located zero l m = absurd (omega arith)

@@ -1,5 +1,6 @@
 -- The promises of specs/Promises, proved.
 -- Assumes nothing.
+use Rattle.std.specs.Prelude.{Result, Ok, Err, ⊤}
 use Prim.Native.Nat.{ℕ, zero, suc, ◌+◌, ◌≤◌}
 use mathlib.Core.Path.{◌≡◌, refl, sym, ap, ◌∙◌}
 use mathlib.Core.List.{List, [], ◌∷◌, ◌++◌, append-nil, map}
@@ -13,8 +14,6 @@ use Rattle.rows.specs.Programme.{alphabet_of}
 use Rattle.rows.specs.declared.Refusal.{Refusal}
 use Rattle.rows.specs.declared.Refusal.TheVariants.{Input}
 use Rattle.rows.specs.declared.Text.TheVariants.{Line, Bytes}
-use Rattle.rows.specs.declared.Check.{Check}
-use Rattle.rows.specs.declared.Check.TheVariants.{Fine, Refused}
 use Rattle.patterns.specs.Answers.{Listed}
 use Rattle.patterns.specs.Walk.{list_of}
 use Rattle.patterns.proofs.Listing.{listed_once}
@@ -131,11 +130,11 @@ one_refusal (faulty h f) (long g) = absurd (omega arith)
 one_refusal (faulty h f) (faulty g e) = ap (λ k. Input (Line k)) (one_fault 3 1 _ f e)
 
 refused_once : (A w q A' w' q' : List ℕ) (r r' : Refusal) → A ≡ A' → w ≡ w' → q ≡ q'
-    → seek_check A w q ≡ Refused r → seek_check A' w' q' ≡ Refused r' → r ≡ r'
+    → seek_check A w q ≡ Err r → seek_check A' w' q' ≡ Err r' → r ≡ r'
 refused_once A w q A' w' q' r r' a b c e f = cc
 
 never_both : (A w q A' w' q' : List ℕ) (r : Refusal) → A ≡ A' → w ≡ w' → q ≡ q'
-    → seek_check A w q ≡ Refused r → seek_check A' w' q' ≡ Fine → ⊥
+    → seek_check A w q ≡ Err r → seek_check A' w' q' ≡ Ok tt → ⊥
 never_both A w q A' w' q' r a b c e f = let z : ◌≡◌ {A = ℕ} 0 1 = cc in omega arith
 
 settled : (b o o' : List ℕ) → Prints b o → Prints b o' → o ≡ o'
@@ -163,9 +162,9 @@ settled b o o' (lists_searched A w q ps h s e l) (lists_searched A' w' q' ps' h'
 printed : (b : List ℕ) → (o : List ℕ) × Prints b o
 printed b = go (taken b)
   where
-    searched : (A w q : List ℕ) → length b ≤ input_most → Says b A w q → (c : Check) → seek_check A w q ≡ c → (o : List ℕ) × Prints b o
-    searched A w q h s Fine e = (count_text (length (list_of (alphabet_of A) w q)) ++ joined (map (line_text A w q) (list_of (alphabet_of A) w q)), lists_searched A w q (list_of (alphabet_of A) w q) h s e (fine_listed A w q e))
-    searched A w q h s (Refused r) e = (refusal_text r, lists_refused A w q h s e)
+    searched : (A w q : List ℕ) → length b ≤ input_most → Says b A w q → (c : Result ⊤ Refusal) → seek_check A w q ≡ c → (o : List ℕ) × Prints b o
+    searched A w q h s (Ok _) e = (count_text (length (list_of (alphabet_of A) w q)) ++ joined (map (line_text A w q) (list_of (alphabet_of A) w q)), lists_searched A w q (list_of (alphabet_of A) w q) h s e (fine_listed A w q e))
+    searched A w q h s (Err r) e = (refusal_text r, lists_refused A w q h s e)
 
     go : Taken b → (o : List ℕ) × Prints b o
     go (inl l) = searched l.1.0 l.1.1 l.1.2 l.0 l.1.3 (seek_check l.1.0 l.1.1 l.1.2) refl

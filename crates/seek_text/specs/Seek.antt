@@ -1,5 +1,5 @@
 -- What `seek` prints for an input. To be read with Lines of crates/decimal/specs and Print of crates/seek_print/specs.
-use Rattle.std.specs.Prelude.{ℕ, zero, suc, ◌+◌, ◌≤◌, ◌<◌, ◌≡◌, List, [], ◌∷◌, ◌++◌, map, length, get_or}
+use Rattle.std.specs.Prelude.{ℕ, zero, suc, ◌+◌, ◌≤◌, ◌<◌, ◌≡◌, List, [], ◌∷◌, ◌++◌, map, length, get_or, Result, Ok, Err, ⊤}
 use Rattle.rows.specs.Limits.{row_most}
 use Rattle.rows.specs.Programme.{alphabet_of}
 use Rattle.rows.specs.Row.{sized}
@@ -8,8 +8,6 @@ use Rattle.rows.specs.Refusals.{◌then◌, as_kept, alphabet, symbols, pattern}
 use Rattle.rows.specs.declared.Refusal.{Refusal}
 use Rattle.rows.specs.declared.Refusal.TheVariants.{Row, Input}
 use Rattle.rows.specs.declared.Text.TheVariants.{Line, Bytes}
-use Rattle.rows.specs.declared.Check.{Check}
-use Rattle.rows.specs.declared.Check.TheVariants.{Fine, Refused}
 use Rattle.patterns.specs.Answers.{Listed, spans}
 use Rattle.decimal.specs.Lines.{line, Small}
 use Rattle.seek_print.specs.Print.{refusal_text, count_text, match_text}
@@ -42,7 +40,7 @@ pub data InputRefused (b : List ℕ) : Refusal → Type 0 where
   faulty : {k : ℕ} → length b ≤ input_most → Faulty 3 1 b k → InputRefused b (Input (Line k))
 
 -- the library's refusals that an input can meet, in their order: 1 to 5, 7 to 9, 11 to 15
-unfoldable pub seek_check : List ℕ → List ℕ → List ℕ → Check
+unfoldable pub seek_check : List ℕ → List ℕ → List ℕ → Result ⊤ Refusal
 seek_check A w q = alphabet (alphabet_of A) then as_kept Row (sized (length w) row_most) then symbols Row A w then pattern A q
 
 -- the line of the match at p
@@ -58,6 +56,6 @@ joined (l ∷ ls) = l ++ joined ls
 -- input says; else the number of the matches and their lines.
 pub data Prints (b : List ℕ) : List ℕ → Type 0 where
   input_refused : {r : Refusal} → InputRefused b r → Prints b (refusal_text r)
-  lists_refused : (A w q : List ℕ) {r : Refusal} → length b ≤ input_most → Says b A w q → seek_check A w q ≡ Refused r → Prints b (refusal_text r)
-  lists_searched : (A w q ps : List ℕ) → length b ≤ input_most → Says b A w q → seek_check A w q ≡ Fine → Listed (alphabet_of A) w q (length w) ps
+  lists_refused : (A w q : List ℕ) {r : Refusal} → length b ≤ input_most → Says b A w q → seek_check A w q ≡ Err r → Prints b (refusal_text r)
+  lists_searched : (A w q ps : List ℕ) → length b ≤ input_most → Says b A w q → seek_check A w q ≡ Ok tt → Listed (alphabet_of A) w q (length w) ps
       → Prints b (count_text (length ps) ++ joined (map (line_text A w q) ps))

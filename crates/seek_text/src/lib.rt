@@ -5,6 +5,6 @@ mod input;
 mod pages;
 mod search;
 
-pub use input::{INPUT_MOST, NUMBERS_MOST};
-pub use pages::{Page, line_count, print_page};
-pub use search::{Response, answer_input};
+pub use input::{INPUT_MOST, Lists, NUMBERS_MOST};
+pub use pages::{Page, Told, line_count};
+pub use search::{Found, answer_input};

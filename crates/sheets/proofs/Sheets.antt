@@ -1,5 +1,6 @@
 -- Laws of a sheet: the answer for one pattern, those for one pattern more, and those for all.
 -- Assumes nothing.
+use Rattle.std.specs.Prelude.{Result, Ok, Err, ⊤}
 use Prim.Native.Nat.{ℕ, zero, suc, ◌+◌, ◌*◌, ◌-◌, ◌≤◌, min}
 use mathlib.Core.Path.{◌≡◌, refl, sym, ap, ap₂, ◌∙◌, subst}
 use mathlib.Core.List.{List, [], ◌∷◌, ◌++◌}
@@ -13,8 +14,6 @@ use Rattle.rows.specs.Sheet.{pattern_at, laid}
 use Rattle.rows.specs.Buffers.{written}
 use Rattle.rows.specs.Refusals.{◌then◌, given, pattern}
 use Rattle.rows.specs.declared.Refusal.{Refusal}
-use Rattle.rows.specs.declared.Check.{Check}
-use Rattle.rows.specs.declared.Check.TheVariants.{Fine, Refused}
 use Rattle.rows.proofs.Buffers.{length-written, written-front}
 use Rattle.rows.proofs.Sheet.{laid_more, laid-length, laid_most, laid_each}
 use Rattle.refusal_numbers.specs.Numbers.{number, place}
@@ -26,8 +25,6 @@ use Rattle.patterns.specs.Answers.{Listed}
 use Rattle.patterns.specs.Searchable.{Checked}
 use Rattle.patterns.proofs.Promises.{one_list, walk_lists}
 use Rattle.searches.specs.Searches.{ListTold, Lists}
-use Rattle.searches.specs.declared.Listing.{Listing}
-use Rattle.searches.specs.declared.Listing.TheVariants.{All, Needs}
 use Rattle.searches.proofs.Counting.{listed_length}
 use Rattle.checks.specs.Checks.{search_check}
 use Rattle.checks.proofs.Passing.{search_checked}
@@ -35,30 +32,30 @@ use Rattle.sheets.specs.Result.{result_of}
 use Rattle.sheets.specs.Sheets.{alone, result, positions_of, results_of, Holds, Answered, AnsweredTo}
 
 -- number and place of a refused pattern are small: the place lies in it, or is its length
-pub pattern-small : (A q : List ℕ) (x : Refusal) → pattern A q ≡ Refused x → (number x ≤ 15) × (place x ≤ length q)
+pub pattern-small : (A q : List ℕ) (x : Refusal) → pattern A q ≡ Err x → (number x ≤ 15) × (place x ≤ length q)
 pattern-small A q x e =
     ⊎_elim
     (λ long. ⊎_elim (λ h. (omega (arith, h.0), omega (arith, h.1))) (λ h. (omega (arith, h.0), omega (arith, h.1))) long)
     (λ tree. ⊎_elim (λ h. (omega (arith, h.0), omega (arith, h.1))) (λ h. ⊎_elim (λ h. (omega (arith, h.0), omega (arith, h.1))) (λ h. (omega (arith, h.0), omega (arith, h.1))) h) tree.2)
-    ((table.pattern_wrong A q (number x) (place x)).0 (subst (λ (c : Check). Refuses c (number x) (place x)) (sym e) (refl, refl)))
+    ((table.pattern_wrong A q (number x) (place x)).0 (subst (λ (c : Result ⊤ Refusal). Refuses c (number x) (place x)) (sym e) (refl, refl)))
 
-module _ (a : Alphabet) (P : Programme) (g : given a P (length P.row) ≡ Fine) where
+module _ (a : Alphabet) (P : Programme) (g : given a P (length P.row) ≡ Ok tt) where
   pub row_most_lem : length P.row ≤ row_most
   row_most_lem = (given_right a P g).row.sized.most
 
   module _ (q : List ℕ) where
     -- an accepted pattern can be searched for
-    pub fine_checked : pattern a.arities q ≡ Fine → Checked a P q
+    pub fine_checked : pattern a.arities q ≡ Ok tt → Checked a P q
     unfolding search_check
     fine_checked e = search_checked a P q (ap₂ ◌then◌ g e)
 
     -- its positions are its matches
-    pub alone_listed : pattern a.arities q ≡ Fine → Listed a P.row q (length P.row) (alone a P.row q)
+    pub alone_listed : pattern a.arities q ≡ Ok tt → Listed a P.row q (length P.row) (alone a P.row q)
     unfolding alone
     alone_listed e = rw e (walk_lists a P q (fine_checked e))
 
     -- a refused one has none
-    pub alone-refused : (x : Refusal) → pattern a.arities q ≡ Refused x → alone a P.row q ≡ []
+    pub alone-refused : (x : Refusal) → pattern a.arities q ≡ Err x → alone a P.row q ≡ []
     unfolding alone
     alone-refused x e = rw e refl
 
@@ -66,13 +63,13 @@ module _ (a : Alphabet) (P : Programme) (g : given a P (length P.row) ≡ Fine) 
     pub alone_most : length (alone a P.row q) ≤ length P.row
     alone_most = go (pattern a.arities q) refl
       where
-        go : (c : Check) → pattern a.arities q ≡ c → length (alone a P.row q) ≤ length P.row
-        go Fine e = listed_length a P q (fine_checked e) (length P.row) (alone a P.row q) (omega arith) (alone_listed e)
-        go (Refused x) e = rw (alone-refused x e) (omega arith)
+        go : (c : Result ⊤ Refusal) → pattern a.arities q ≡ c → length (alone a P.row q) ≤ length P.row
+        go (Ok _) e = listed_length a P q (fine_checked e) (length P.row) (alone a P.row q) (omega arith) (alone_listed e)
+        go (Err x) e = rw (alone-refused x e) (omega arith)
 
     -- ONE PATTERN
-    pub refused-answered : (y : List ℕ) (i : ℕ) (z : List ℕ) (x : Refusal) → pattern a.arities q ≡ Refused x → (z' : List ℕ)
-        → z' ≡ written z (result_places * i) (result_of (Refused x) 0) → Answered a P.row q y i z 0 y z'
+    pub refused-answered : (y : List ℕ) (i : ℕ) (z : List ℕ) (x : Refusal) → pattern a.arities q ≡ Err x → (z' : List ℕ)
+        → z' ≡ written z (result_places * i) (result_of (Err x) 0) → Answered a P.row q y i z 0 y z'
     unfolding result alone written
     refused-answered y i z x e z' w =
         record {
@@ -82,30 +79,30 @@ module _ (a : Alphabet) (P : Programme) (g : given a P (length P.row) ≡ Fine) 
         }
 
     -- the listing counts them
-    module _ (e : pattern a.arities q ≡ Fine) (y : List ℕ) (r : Listing) (y' : List ℕ) (l : Lists a P.row q y r y') (n : ℕ) where
-      told : (x : Listing) → r ≡ x → ListTold (alone a P.row q) y x y'
+    module _ (e : pattern a.arities q ≡ Ok tt) (y : List ℕ) (r : Result ℕ ℕ) (y' : List ℕ) (l : Lists a P.row q y r y') (n : ℕ) where
+      told : (x : Result ℕ ℕ) → r ≡ x → ListTold (alone a P.row q) y x y'
       told x d =
           subst
-          (λ (x : Listing). ListTold (alone a P.row q) y x y')
+          (λ (x : Result ℕ ℕ). ListTold (alone a P.row q) y x y')
           d
           (subst
           (λ (ps : List ℕ). ListTold ps y r y')
           (one_list a P.row q (length P.row) l.positions (alone a P.row q) l.listed (alone_listed e))
           l.told)
 
-      pub told_count : (r ≡ All n) ⊎ (r ≡ Needs n) → n ≡ length (alone a P.row q)
-      told_count s = ⊎_elim (λ d. (told (All n) d).0) (λ d. (told (Needs n) d).0) s
+      pub told_count : (r ≡ Ok n) ⊎ (r ≡ Err n) → n ≡ length (alone a P.row q)
+      told_count s = ⊎_elim (λ d. (told (Ok n) d).0) (λ d. (told (Err n) d).0) s
 
-      told_holds : (r ≡ All n) ⊎ (r ≡ Needs n) → Holds (alone a P.row q) y y'
-      told_holds s = ⊎_elim (λ d. all (told (All n) d)) (λ d. needs (told (Needs n) d)) s
+      told_holds : (r ≡ Ok n) ⊎ (r ≡ Err n) → Holds (alone a P.row q) y y'
+      told_holds s = ⊎_elim (λ d. all (told (Ok n) d)) (λ d. needs (told (Err n) d)) s
         where
-          all : ListTold (alone a P.row q) y (All n) y' → Holds (alone a P.row q) y y'
+          all : ListTold (alone a P.row q) y (Ok n) y' → Holds (alone a P.row q) y y'
           all t = record { long = ap length t.2 ∙ length-written y 0 (alone a P.row q) (omega (arith, t.0, t.1)); front = λ h. t.2 }
 
-          needs : ListTold (alone a P.row q) y (Needs n) y' → Holds (alone a P.row q) y y'
+          needs : ListTold (alone a P.row q) y (Err n) y' → Holds (alone a P.row q) y y'
           needs t = record { long = ap length t.2; front = λ h. absurd (omega (arith, t.0, t.1)) }
 
-      pub listed_answered : (i : ℕ) (z z' : List ℕ) → (r ≡ All n) ⊎ (r ≡ Needs n) → z' ≡ written z (result_places * i) (0 ∷ 0 ∷ n ∷ [])
+      pub listed_answered : (i : ℕ) (z z' : List ℕ) → (r ≡ Ok n) ⊎ (r ≡ Err n) → z' ≡ written z (result_places * i) (0 ∷ 0 ∷ n ∷ [])
           → Answered a P.row q y i z n y' z'
       unfolding result
       listed_answered i z z' s w =
@@ -120,9 +117,9 @@ length-result : (a : Alphabet) (w q : List ℕ) → length (result a w q) ≡ re
 unfolding result
 length-result a w q = go (pattern a.arities q) (length (alone a w q))
   where
-    go : (c : Check) (n : ℕ) → length (result_of c n) ≡ result_places
-    go Fine n = refl
-    go (Refused x) n = refl
+    go : (c : Result ⊤ Refusal) (n : ℕ) → length (result_of c n) ≡ result_places
+    go (Ok _) n = refl
+    go (Err x) n = refl
 
 -- the results of n patterns take three places each
 pub results_length : (a : Alphabet) (w qs ls : List ℕ) (n : ℕ) → length (laid (results_of a w qs ls) n) ≡ result_places * n
@@ -189,7 +186,7 @@ module _ (a : Alphabet) (w qs ls : List ℕ) where
 
 -- ALL PATTERNS
 -- no more positions than the row has, for each
-pub laid-few : (a : Alphabet) (P : Programme) → given a P (length P.row) ≡ Fine → (qs ls : List ℕ) (b n : ℕ) → length P.row ≤ b
+pub laid-few : (a : Alphabet) (P : Programme) → given a P (length P.row) ≡ Ok tt → (qs ls : List ℕ) (b n : ℕ) → length P.row ≤ b
     → length (laid (positions_of a P.row qs ls) n) ≤ b * n
 laid-few a P g qs ls b n h = laid_most (positions_of a P.row qs ls) b n (λ i k. omega (arith, alone_most a P g (pattern_at qs ls i)))
 

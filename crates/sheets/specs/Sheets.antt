@@ -1,15 +1,12 @@
 -- Inside: no public contract cites what stands in this file, and no reader has to believe it.
 -- What the functions of this crate ask for, and what they promise to the public call.
-use Rattle.std.specs.Prelude.{ℕ, ◌*◌, ◌≤◌, ◌<◌, ◌≡◌, List, [], length}
+use Rattle.std.specs.Prelude.{ℕ, ◌*◌, ◌≤◌, ◌<◌, ◌≡◌, List, [], length, Result, Ok, Err}
 use Rattle.rows.specs.Limits.{sheet_most, result_places}
 use Rattle.rows.specs.Programme.{Alphabet, Programme}
 use Rattle.rows.specs.Sheet.{begin_of, pattern_at, laid}
 use Rattle.rows.specs.Buffers.{written, after}
 use Rattle.rows.specs.Refusals.{given, pattern}
-use Rattle.rows.specs.declared.Check.TheVariants.{Fine}
 use Rattle.patterns.specs.Walk.{list_of}
-use Rattle.searches.specs.declared.Listing.{Listing}
-use Rattle.searches.specs.declared.Listing.TheVariants.{All, Needs}
 use Rattle.sheets.specs.Result.{result_of}
 
 -- the positions of a pattern: its matches; none where it is refused
@@ -45,17 +42,17 @@ pub record AnsweredTo (a : Alphabet) (w qs ls : List ℕ) (n : ℕ) (y z : List 
 
 -- what refusals 1 to 10, 62, 63, 64 and 19 leave: the list z has room for the results of the patterns qs of lengths ls
 pub record Answerable (a : Alphabet) (P : Programme) (qs ls z : List ℕ) : Type 0 where
-  pub given : given a P (length P.row) ≡ Fine
+  pub given : given a P (length P.row) ≡ Ok tt
   pub few : length ls ≤ sheet_most
   pub sum : begin_of ls (length ls) ≡ length qs
   pub room : result_places * length ls ≤ length z
 
 -- what is told of the positions ps and the results rs, for two outputs: all are written at their fronts; or nothing is, since the first
 -- needs more places
-abbrev pub SheetTold : (ps rs y z : List ℕ) → Listing → (y' z' : List ℕ) → Type 0
-SheetTold ps rs y z (All n) y' z' = (n ≡ length ps) × (n ≤ length y) × (y' ≡ written y 0 ps) × (z' ≡ written z 0 rs)
-SheetTold ps rs y z (Needs n) y' z' = (n ≡ length ps) × (length y < n) × (y' ≡ y) × (z' ≡ z)
+abbrev pub SheetTold : (ps rs y z : List ℕ) → Result ℕ ℕ → (y' z' : List ℕ) → Type 0
+SheetTold ps rs y z (Ok n) y' z' = (n ≡ length ps) × (n ≤ length y) × (y' ≡ written y 0 ps) × (z' ≡ written z 0 rs)
+SheetTold ps rs y z (Err n) y' z' = (n ≡ length ps) × (length y < n) × (y' ≡ y) × (z' ≡ z)
 
 -- that is told of a whole sheet
-abbrev pub SheetListed : Alphabet → List ℕ → (qs ls y z : List ℕ) → Listing → (y' z' : List ℕ) → Type 0
+abbrev pub SheetListed : Alphabet → List ℕ → (qs ls y z : List ℕ) → Result ℕ ℕ → (y' z' : List ℕ) → Type 0
 SheetListed a w qs ls y z r y' z' = SheetTold (laid (positions_of a w qs ls) (length ls)) (laid (results_of a w qs ls) (length ls)) y z r y' z'

@@ -1,5 +1,6 @@
 -- Newer or older: what the checks leave, and what the search of a row says.
 -- Assumes nothing.
+use Rattle.std.specs.Prelude.{Result, Ok, Err}
 use Prim.Native.Nat.{ℕ, ◌-◌, ◌≤◌, ◌<◌}
 use mathlib.Core.Path.{◌≡◌, refl, sym, ap, ap₂, ◌∙◌}
 use mathlib.Core.List.{List}
@@ -16,7 +17,8 @@ use Rattle.patterns.specs.Searchable.{Checked}
 use Rattle.searches.specs.Searches.{FirstFrom, NoneFrom}
 use Rattle.sparrowhem.specs.Parts.{FirstMatch, NoMatch, NewestSays}
 use Rattle.sparrowhem.specs.declared.parts.Newest.{Newest}
-use Rattle.sparrowhem.specs.declared.parts.Newest.TheVariants.{Corrected, OnRecord as OnRecordAt, Nowhere, Refused as NewestRefused}
+use Rattle.sparrowhem.specs.declared.parts.Newest.TheVariants.{Corrected, OnRecord as OnRecordAt, Nowhere}
+use Rattle.rows.specs.declared.Refusal.{Refusal}
 use Rattle.rows.proofs.Passing.{clash}
 
 -- the search of a row from its start
@@ -57,23 +59,23 @@ some_match : {a : Alphabet} {w q : List ℕ} {p e : ℕ} → FirstMatch a w q p 
 some_match f n = n _ f.within f.here
 
 module _ (a : Alphabet) (P O : Programme) (q : List ℕ) where
-  abbrev Says : Newest → Type 0
+  abbrev Says : Result Newest Refusal → Type 0
   Says = NewestSays a P O q
 
-  pub one_answer : (r s : Newest) → Says r → Says s → r ≡ s
-  one_answer (Corrected p e) (Corrected p' e') h k = let o = first_once a P.row q p e p' e' h.1 k.1 in ap₂ Corrected o.0 o.1
-  one_answer (Corrected p e) (OnRecordAt p' e') h k = absurd (some_match h.1 k.1)
-  one_answer (Corrected p e) Nowhere h k = absurd (some_match h.1 k.1)
-  one_answer (Corrected p e) (NewestRefused y) h k = absurd (clash _ y h.0 k)
-  one_answer (OnRecordAt p e) (Corrected p' e') h k = absurd (some_match k.1 h.1)
-  one_answer (OnRecordAt p e) (OnRecordAt p' e') h k = let o = first_once a O.row q p e p' e' h.2 k.2 in ap₂ OnRecordAt o.0 o.1
-  one_answer (OnRecordAt p e) Nowhere h k = absurd (some_match h.2 k.2)
-  one_answer (OnRecordAt p e) (NewestRefused y) h k = absurd (clash _ y h.0 k)
-  one_answer Nowhere (Corrected p e) h k = absurd (some_match k.1 h.1)
-  one_answer Nowhere (OnRecordAt p e) h k = absurd (some_match k.2 h.2)
-  one_answer Nowhere Nowhere h k = refl
-  one_answer Nowhere (NewestRefused y) h k = absurd (clash _ y h.0 k)
-  one_answer (NewestRefused y) (Corrected p e) h k = absurd (clash _ y k.0 h)
-  one_answer (NewestRefused y) (OnRecordAt p e) h k = absurd (clash _ y k.0 h)
-  one_answer (NewestRefused y) Nowhere h k = absurd (clash _ y k.0 h)
-  one_answer (NewestRefused y) (NewestRefused z) h k = let x : y ≡ z = cc (sym h ∙ k) in ap NewestRefused x
+  pub one_answer : (r s : Result Newest Refusal) → Says r → Says s → r ≡ s
+  one_answer (Ok (Corrected p e)) (Ok (Corrected p' e')) h k = let o = first_once a P.row q p e p' e' h.1 k.1 in ap₂ (λ (b e : ℕ). Ok (Corrected b e)) o.0 o.1
+  one_answer (Ok (Corrected p e)) (Ok (OnRecordAt p' e')) h k = absurd (some_match h.1 k.1)
+  one_answer (Ok (Corrected p e)) (Ok Nowhere) h k = absurd (some_match h.1 k.1)
+  one_answer (Ok (Corrected p e)) (Err y) h k = absurd (clash _ y h.0 k)
+  one_answer (Ok (OnRecordAt p e)) (Ok (Corrected p' e')) h k = absurd (some_match k.1 h.1)
+  one_answer (Ok (OnRecordAt p e)) (Ok (OnRecordAt p' e')) h k = let o = first_once a O.row q p e p' e' h.2 k.2 in ap₂ (λ (b e : ℕ). Ok (OnRecordAt b e)) o.0 o.1
+  one_answer (Ok (OnRecordAt p e)) (Ok Nowhere) h k = absurd (some_match h.2 k.2)
+  one_answer (Ok (OnRecordAt p e)) (Err y) h k = absurd (clash _ y h.0 k)
+  one_answer (Ok Nowhere) (Ok (Corrected p e)) h k = absurd (some_match k.1 h.1)
+  one_answer (Ok Nowhere) (Ok (OnRecordAt p e)) h k = absurd (some_match k.2 h.2)
+  one_answer (Ok Nowhere) (Ok Nowhere) h k = refl
+  one_answer (Ok Nowhere) (Err y) h k = absurd (clash _ y h.0 k)
+  one_answer (Err y) (Ok (Corrected p e)) h k = absurd (clash _ y k.0 h)
+  one_answer (Err y) (Ok (OnRecordAt p e)) h k = absurd (clash _ y k.0 h)
+  one_answer (Err y) (Ok Nowhere) h k = absurd (clash _ y k.0 h)
+  one_answer (Err y) (Err z) h k = let x : y ≡ z = cc (sym h ∙ k) in ap Err x

@@ -1,5 +1,6 @@
 -- What the plain matcher tries: a part of the row that the pattern can be tried at.
 -- Assumes nothing.
+use Rattle.std.specs.Prelude.{Bool, Result, Ok, Err, ⊤, is_ok}
 use Prim.Native.Nat.{ℕ, ◌<◌}
 use mathlib.Core.Path.{◌≡◌, sym, ap, ◌∙◌, subst}
 use mathlib.Core.List.{List}
@@ -16,7 +17,9 @@ use Rattle.rows.proofs.Entry.{behind_some}
 use Rattle.rows.proofs.Subtrees.{drop-subtrees}
 use Rattle.patterns.specs.Pattern.{Match}
 use Rattle.patterns.specs.Answers.{MatchesAt}
-use Rattle.plain.specs.Plain.{Tryable}
+use Rattle.plain.specs.Plain.{Tryable, TriesRight}
+use Rattle.checks.specs.Checks.{plain_check}
+use Rattle.sparrowhem.specs.Plain.{PlainSays}
 use Rattle.plain.proofs.Spelling.{tail, tail_is, ranked_drop}
 use Rattle.checks.proofs.Passing.{Open}
 
@@ -48,3 +51,11 @@ module _ (a : Alphabet) (w q : List ℕ) (p : ℕ) (o : Open a w q p) where
   -- the pattern matches there exactly if it matches the tree of the part
   pub there : Match (tree_of a.arities q) (tree_of a.arities (tail w p)) ≡ MatchesAt a w q p
   there = ap (Match (tree_of a.arities q)) (ap (tree_of a.arities) (tail_is w p) ∙ tree_there a.arities w p o.below)
+
+  -- what is tried tells
+  pub plain_tried : plain_check a w q p ≡ Ok tt → (r : Result ⊤ (ℕ × ℕ)) → TriesRight a (tail w p) q r → (b : Bool) → b ≡ is_ok r → PlainSays a w q p (Ok b)
+  plain_tried e r t b z = subst (λ (x : Bool). PlainSays a w q p (Ok x)) (sym z) (go r t)
+    where
+      go : (r : Result ⊤ (ℕ × ℕ)) → TriesRight a (tail w p) q r → PlainSays a w q p (Ok (is_ok r))
+      go (Ok _) t = (e, subst (λ (X : Type 0). X) there t)
+      go (Err k) t = (e, subst (λ (X : Type 0). X → ⊥) there t.0)

@@ -1,17 +1,14 @@
 -- What replace answers, and what it leaves in the row's buffer and beside it.
-use Rattle.std.specs.Prelude.{ℕ, ◌≡◌, List, pos, ◌-ℤ◌}
+use Rattle.std.specs.Prelude.{ℕ, ◌≡◌, List, pos, ◌-ℤ◌, ℤ, Result, Ok, Err, ⊤}
 use Rattle.rows.specs.Limits.{freed_symbol, freed_entry, freed_class}
 use Rattle.rows.specs.Programme.{Alphabet, Programme, front}
 use Rattle.rows.specs.Tree.{Forest, size, prefix, ends}
 use Rattle.rows.specs.Classes.{classes_of}
 use Rattle.rows.specs.Buffers.{after}
-use Rattle.rows.specs.declared.Check.{Check}
-use Rattle.rows.specs.declared.Check.TheVariants.{Fine, Refused}
 use Rattle.buffers.specs.Renewed.{renewed}
 use Rattle.edits.specs.Put.{changed}
 use Rattle.checks.specs.Checks.{replace_check}
-use Rattle.sparrowhem.specs.declared.edit.Replaced.{Replaced}
-use Rattle.sparrowhem.specs.declared.edit.Replaced.TheVariants.{Done, Refused as Unreplaced}
+use Rattle.rows.specs.declared.Refusal.{Refusal}
 
 -- the tree of the first n symbols once the subtree at p has given way to that of the row `v`
 abbrev pub new_tree : Alphabet → Programme → ℕ → List ℕ → ℕ → Forest
@@ -27,12 +24,12 @@ holding P n f =
     }
 
 -- the new length m and how much it is over the old one; or the refusal
-abbrev pub answered : Check → ℕ → ℕ → Replaced
-answered Fine m n = Done m (pos m -ℤ pos n)
-answered (Refused r) m n = Unreplaced r
+abbrev pub answered : Result ⊤ Refusal → ℕ → ℕ → Result (ℕ × ℤ) Refusal
+answered (Ok _) m n = Ok (m, (pos m -ℤ pos n))
+answered (Err r) m n = Err r
 
 -- `r` answers a replacement by the row `v` at position p of the row of the first n places of its buffer; `P'` is what the lists hold
 -- afterwards
-pub record Replacement (a : Alphabet) (P : Programme) (n : ℕ) (v : List ℕ) (p : ℕ) (r : Replaced) (P' : Programme) : Type 0 where
+pub record Replacement (a : Alphabet) (P : Programme) (n : ℕ) (v : List ℕ) (p : ℕ) (r : Result (ℕ × ℤ) Refusal) (P' : Programme) : Type 0 where
   pub answer : r ≡ answered (replace_check a P n v p) (size (new_tree a P n v p)) n
   pub lists : P' ≡ after (replace_check a P n v p) (holding P n (new_tree a P n v p)) P

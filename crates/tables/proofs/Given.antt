@@ -1,5 +1,6 @@
 -- What checks that find nothing to refuse tell.
 -- Assumes nothing.
+use Rattle.std.specs.Prelude.{Ok}
 use Prim.Native.Nat.{ℕ, ◌≤◌, ◌<◌}
 use mathlib.Core.Path.{◌≡◌, sym, ap, ◌∙◌, subst}
 use mathlib.Core.List.{List}
@@ -17,7 +18,6 @@ use Rattle.rows.specs.declared.Kept.{Kept}
 use Rattle.rows.specs.declared.Kept.TheVariants.{Stale, Misclassed}
 use Rattle.rows.specs.declared.Refusal.{Refusal}
 use Rattle.rows.specs.declared.Refusal.TheVariants.{Row}
-use Rattle.rows.specs.declared.Check.TheVariants.{Fine}
 use Rattle.rows.proofs.Passing.{both_fine, row_fine, sizes_fits}
 use Rattle.rows.proofs.Entry.{length-table, entry_bounds}
 use Rattle.rows.proofs.Classes.{class_of_row}
@@ -25,7 +25,7 @@ use Rattle.rows.proofs.Differ.{differs_whole}
 use Rattle.tables.specs.Given.{Sized, Right, InOrder}
 
 -- refusals 7 to 10 leave an accepted row with its table
-fine_right : (whose : Kept → Refusal) (A w t : List ℕ) → Sized w t → symbols whose A w ≡ Fine → fresh whose A w t ≡ Fine → Right A w t
+fine_right : (whose : Kept → Refusal) (A w t : List ℕ) → Sized w t → symbols whose A w ≡ Ok tt → fresh whose A w t ≡ Ok tt → Right A w t
 unfolding symbols fresh
 fine_right whose A w t s row entries =
     record {
@@ -34,7 +34,7 @@ fine_right whose A w t s row entries =
       right = ap (λ (n : ℕ). take n t) (sym (length-table A w)) ∙ differs_whole (λ k. whose (Stale k)) 0 (table A w) t entries;
     }
 
-pub check_right : (whose : Kept → Refusal) (A w t : List ℕ) → Sized w t → symbols whose A w then fresh whose A w t ≡ Fine → Right A w t
+pub check_right : (whose : Kept → Refusal) (A w t : List ℕ) → Sized w t → symbols whose A w then fresh whose A w t ≡ Ok tt → Right A w t
 check_right whose A w t s e =
     let both = both_fine (symbols whose A w) (fresh whose A w t) e in
     fine_right whose A w t s both.0 both.1
@@ -47,7 +47,7 @@ pub record Held (a : Alphabet) (P : Programme) (n : ℕ) : Type 0 where
   pub order : InOrder a (front n P)
 
 -- refusals 4 to 10 and 62 leave a programme in order, at the front of its buffer
-pub kept_right : (whose : Kept → Refusal) (a : Alphabet) (P : Programme) (n : ℕ) → kept whose a P n ≡ Fine → Held a P n
+pub kept_right : (whose : Kept → Refusal) (a : Alphabet) (P : Programme) (n : ℕ) → kept whose a P n ≡ Ok tt → Held a P n
 unfolding kept fresh classed
 kept_right whose a P n e =
     let w = take n P.row in
@@ -74,13 +74,13 @@ kept_right whose a P n e =
     }
 
 -- where the buffer is the row itself
-pub kept_whole : (whose : Kept → Refusal) (a : Alphabet) (P : Programme) → kept whose a P (length P.row) ≡ Fine → InOrder a P
+pub kept_whole : (whose : Kept → Refusal) (a : Alphabet) (P : Programme) → kept whose a P (length P.row) ≡ Ok tt → InOrder a P
 kept_whole whose a P e =
     subst (λ (w : List ℕ). InOrder a (record { row = w; table = P.table; classes = P.classes })) (take_all (length P.row) P.row (omega arith))
     (kept_right whose a P (length P.row) e).order
 
 -- and so do refusals 1 to 10 and 62
-pub given_right : (a : Alphabet) (P : Programme) → given a P (length P.row) ≡ Fine → InOrder a P
+pub given_right : (a : Alphabet) (P : Programme) → given a P (length P.row) ≡ Ok tt → InOrder a P
 unfolding given
 given_right a P e = kept_whole Row a P (both_fine (alphabet a) (kept Row a P (length P.row)) e).1
 

@@ -1,6 +1,6 @@
 -- Hops from tree to tree, by the ends that a table holds.
 -- Assumes nothing.
-use Prim.Native.Nat.{ℕ, zero, suc, ◌+◌, ◌-◌, ◌≤◌, ◌<◌}
+use Prim.Native.Nat.{ℕ, zero, suc, ◌+◌, ◌≤◌, ◌<◌}
 use mathlib.Core.Path.{◌≡◌, sym, ap, ap₂, ◌∙◌, subst}
 use mathlib.Core.List.{List, ◌++◌, append_assoc}
 use native.Mathlib.Nat.{add-zero}
@@ -62,45 +62,6 @@ pub hop_within : (t : List ℕ) (b : ℕ) (g : Forest) (k : ℕ) → Holds t b g
 hop_within t b g k h l =
     omega (arith, size-first_lt k g l, length-drop b t, ap length h.right, length-append (ends b g) h.later, length-ends b g)
 
--- Of a trees `left` are still to be hopped over, and the others end at `at`.
-pub record Hopped (t : List ℕ) (b e a left at : ℕ) : Type 0 where
-  pub fewer : left < a
-  pub there : (g : Forest) → Hopping t b e a g → at ≡ b + size (first (a - left) g)
-
-module _ (t : List ℕ) (b e a : ℕ) where
-  -- the first tree's end is known
-  pub hopped_one : 0 < a → Hopped t b e a (a - 1) e
-  hopped_one h =
-      let one : a - (a - 1) ≡ 1 = omega arith in
-      record { fewer = omega arith; there = λ g k. subst (λ (n : ℕ). e ≡ b + size (first n g)) (sym one) (k.next h) }
-
-  -- the entry there is told by the table
-  pub hopped_within : (left at : ℕ) (g : Forest) → Hopped t b e a left at → 0 < left → Hopping t b e a g → at < length t
-  hopped_within left at g h l k =
-      omega (arith, h.there g k, hop_within t b g (a - left) k.holds (omega (arith, k.enough, h.fewer)))
-
-  pub hopped_most : (left at : ℕ) (g : Forest) → Hopped t b e a left at → Hopping t b e a g → at ≤ row_most
-  hopped_most left at g h k = omega (arith, h.there g k, k.most, size_split (a - left) g)
-
-  -- and leads one tree further
-  pub hopped_more : (left at : ℕ) → Hopped t b e a left at → 0 < left → Hopped t b e a (left - 1) (get_or t at 0)
-  hopped_more left at h l =
-      let up : suc (a - left) ≡ a - (left - 1) = omega (arith, h.fewer) in
-      record {
-        fewer = omega (arith, h.fewer);
-        there =
-            λ g k.
-            ap (λ (n : ℕ). get_or t n 0) (h.there g k)
-            ∙ hop t b g (a - left) k.holds (omega (arith, k.enough, h.fewer))
-            ∙ ap (λ (n : ℕ). b + size (first n g)) up;
-      }
-
-  -- none are left
-  pub hopped_all : (left at : ℕ) → Hopped t b e a left at → left ≡ 0 → (g : Forest) → Hopping t b e a g → at ≡ b + size (first a g)
-  hopped_all left at h l g k =
-      let all : a - left ≡ a = omega arith in
-      h.there g k ∙ ap (λ (n : ℕ). b + size (first n g)) all
-
 -- without a tree nothing is hopped over
 pub hopped_none : (b a : ℕ) (g : Forest) → a ≡ 0 → b ≡ b + size (first a g)
 unfolding first size
@@ -118,46 +79,45 @@ pub record Filling (A w t₀ t : List ℕ) (p e : ℕ) : Type 0 where
   pub table : t ≡ partly A w t₀ 0 p
   pub next : 0 < count (behind A w p) → e ≡ p + size (first 1 (behind A w p))
 
-pub filling_none : (A w t : List ℕ) (e : ℕ) → Filling A w t t (length w) e
-filling_none A w t e =
-    record { within = omega arith; table = partly_none A w t 0; next = λ some. absurd (omega (arith, few-behind A w (length w) (omega arith))) }
+pub filling_none : (A w t : List ℕ) (n e : ℕ) → n ≡ length w → Filling A w t t n e
+filling_none A w t n e all =
+    subst (λ (m : ℕ). Filling A w t t m e) (sym all)
+    (record { within = omega arith; table = partly_none A w t 0; next = λ some. absurd (omega (arith, few-behind A w (length w) (omega arith))) })
 
 pub filling_all : {A w t₀ t : List ℕ} {p e : ℕ} → Filling A w t₀ t p e → p ≡ 0 → t ≡ written t₀ 0 (ends 0 (parse A w))
 filling_all {A = A} {w = w} {t₀ = t₀} f done = f.table ∙ ap (partly A w t₀ 0) done ∙ partly_all A w t₀ 0
 
--- one entry more, that of the symbol before p, which has a children
-module _ {A w t₀ t : List ℕ} {p e : ℕ} (k : Fillable A w t₀ 0) (f : Filling A w t₀ t p e) (some : 0 < p) (a : ℕ) (arity : a ≡ get_or A (get_or w (p - 1) 0) 0) where
-  up : p - 1 + 1 ≡ p
-  up = omega arith
+-- one entry more, that of the symbol at q, right before p, which has a children
+module _ {A w t₀ t : List ℕ} {p e : ℕ} (k : Fillable A w t₀ 0) (f₀ : Filling A w t₀ t p e) (q a : ℕ) (up : p ≡ q + 1) (arity : a ≡ get_or A (get_or w q 0) 0) where
+  f : Filling A w t₀ t (q + 1) e
+  f = subst (λ (n : ℕ). Filling A w t₀ t n e) up f₀
 
-  below : p - 1 < length w
+  below : q < length w
   below = omega (arith, f.within)
 
-  pub filling_hopping : Hopping t p e a (behind A w p)
+  pub filling_hopping : Hopping t (q + 1) e a (behind A w (q + 1))
   filling_hopping =
-      let enough = subst (λ (n : ℕ). get_or A (get_or w (p - 1) 0) 0 ≤ count (behind A w n)) up (enough_behind A (allowed Symbols A) w 1 0 k.accepted (p - 1) below) in
-      let many : a ≤ count (behind A w p) = omega (arith, enough) in
+      let enough = enough_behind A (allowed Symbols A) w 1 0 k.accepted q below in
       record {
-        holds = subst (λ (l : List ℕ). Holds l p (behind A w p)) (sym f.table) (holds_partly A w t₀ p (omega (arith, f.within, k.fits)));
-        most = omega (arith, f.within, size-behind A w p, k.most);
-        enough = many;
-        next = λ h. f.next (omega arith);
+        holds = subst (λ (l : List ℕ). Holds l (q + 1) (behind A w (q + 1))) (sym f.table) (holds_partly A w t₀ (q + 1) (omega (arith, f.within, k.fits)));
+        most = omega (arith, f.within, size-behind A w (q + 1), k.most);
+        enough = omega (arith, enough);
+        next = λ h. f.next (omega (arith, enough));
       }
 
   -- the end that was found is small enough to be kept
-  pub filling_small : (x : ℕ) → x ≡ p + size (first a (behind A w p)) → x ≤ row_most
-  filling_small x there = omega (arith, filling_hopping.most, size_split a (behind A w p))
+  pub filling_small : (x : ℕ) → x ≡ q + 1 + size (first a (behind A w (q + 1))) → x ≤ row_most
+  filling_small x there = omega (arith, filling_hopping.most, size_split a (behind A w (q + 1)))
 
-  pub filling_more : (x : ℕ) → x ≡ p + size (first a (behind A w p)) → Filling A w t₀ (set t (p - 1) x) (p - 1) x
+  pub filling_more : (x : ℕ) → x ≡ q + 1 + size (first a (behind A w (q + 1))) → Filling A w t₀ (set t q x) q x
   filling_more x there =
-      let own : ℕ = size (first (get_or A (get_or w (p - 1) 0) 0) (behind A w (p - 1 + 1))) in
-      let ending : x ≡ 0 + (p - 1) + 1 + own = there ∙ ap₂ (λ (n b : ℕ). n + size (first b (behind A w n))) (sym up) arity ∙ omega arith in
-      let here : p - 1 ≡ 0 + (p - 1) = omega arith in
+      let ending : x ≡ 0 + q + 1 + size (first (get_or A (get_or w q 0) 0) (behind A w (q + 1))) = there ∙ ap (λ (n : ℕ). q + 1 + size (first n (behind A w (q + 1)))) arity ∙ omega arith in
+      let here : q ≡ 0 + q = omega arith in
       record {
         within = omega (arith, below);
         table =
-            ap₂ (λ (l : List ℕ) (i : ℕ). set l i x) (f.table ∙ ap (partly A w t₀ 0) (sym up)) here
-            ∙ ap (set (partly A w t₀ 0 (p - 1 + 1)) (0 + (p - 1))) ending
-            ∙ partly_more A w t₀ 0 (p - 1) k.fits below;
-        next = λ h. ending ∙ omega (arith, first-behind A w (p - 1) below);
+            ap₂ (λ (l : List ℕ) (i : ℕ). set l i x) f.table here
+            ∙ ap (set (partly A w t₀ 0 (q + 1)) (0 + q)) ending
+            ∙ partly_more A w t₀ 0 q k.fits below;
+        next = λ h. ending ∙ omega (arith, first-behind A w q below);
       }

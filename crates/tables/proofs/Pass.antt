@@ -1,11 +1,12 @@
 -- The one pass from right to left over a row and its table: what it knows at a place, and why it stops.
 -- Assumes nothing.
+use Rattle.std.specs.Prelude.{Result, Err, ⊤, Some}
 use Prim.Native.Nat.{ℕ, ◌+◌, ◌-◌, ◌≤◌, ◌<◌}
 use mathlib.Core.Path.{◌≡◌, sym, ap, ap₂, ◌∙◌, subst}
 use mathlib.Core.List.{List, []}
 use mathlib.Core.Bool.{Bool, true, false}
 use native.Mathlib.Omega.{arith}
-use borrow.Author.Tests.{lt-ltb, le-ltb, eq-eqb}
+use borrow.Author.Tests.{lt-ltb, le-ltb, eq-eqb, ne_eqb}
 use lib.Dec.{T, ltb, eqb, ltb→lt, lt→ltb}
 use lib.ListN.{length, get_or, drop, set}
 use lib.Seq.{drop-length}
@@ -18,17 +19,13 @@ use Rattle.rows.specs.declared.Leaves.TheVariants.{Symbols}
 use Rattle.rows.specs.declared.Kept.{Kept}
 use Rattle.rows.specs.declared.Kept.TheVariants.{Stale}
 use Rattle.rows.specs.declared.Refusal.{Refusal}
-use Rattle.rows.specs.declared.Check.{Check}
-use Rattle.rows.specs.declared.Check.TheVariants.{Refused}
 use Rattle.rows.proofs.Tree.{count-first, ranked_first, ranked_rest}
 use Rattle.rows.proofs.Parse.{prefix-parse}
 use Rattle.rows.proofs.Scan.{drop_more}
 use Rattle.rows.proofs.Accept.{enough, count-parse, lone, whole_of_row}
 use Rattle.rows.proofs.Behind.{behind-over, enough_behind, ends-behind}
 use Rattle.tables.specs.Given.{Sized, Sees}
-use Rattle.tables.specs.declared.Seen.TheVariants.{Tree}
 use Rattle.tables.specs.Beside.{Standing, stale_from, Stands, Places, Passed}
-use Rattle.tables.specs.declared.Stood.TheVariants.{To}
 use Rattle.tables.proofs.Standing.{standing_none, Turn, turn_end, turn_count, turn_standing}
 
 -- nothing is read yet
@@ -54,15 +51,15 @@ stop_few A w trees p below counted h e =
     omega (arith, counted, enough_behind A (allowed Symbols A) w 1 0 e p below)
 
 -- the entry at p decides between p and what is told of the entries behind it
-chosen : (whose : Kept → Refusal) (b : Bool) (n stale p : ℕ) (c : Check) → p < n → c ≡ stale_from whose n stale
-    → pick b c (Refused (whose (Stale p))) ≡ stale_from whose n (pick b stale p)
+chosen : (whose : Kept → Refusal) (b : Bool) (n stale p : ℕ) (c : Result ⊤ Refusal) → p < n → c ≡ stale_from whose n stale
+    → pick b c (Err (whose (Stale p))) ≡ stale_from whose n (pick b stale p)
 chosen whose true n stale p c h e = e
 chosen whose false n stale p c h e = sym (simp (lt-ltb p n h))
 
 -- the symbol is read
 pub stands_more : (A w l : List ℕ) (trees p a : ℕ) → length w ≤ length l → p < length w → Stands A w l trees (p + 1)
     → get_or w p 0 < length A → a ≡ get_or A (get_or w p 0) 0 → a ≤ trees
-    → Places A w p (set l trees (p + 1)) (To (trees - a + 1) (get_or (set l trees (p + 1)) (trees - a) 0))
+    → Places A w p (set l trees (p + 1)) (Some ((trees - a + 1), (get_or (set l trees (p + 1)) (trees - a) 0)))
 unfolding over Ranked
 stands_more A w l trees p a room below c symbol arity deep =
     let g : Forest = behind A w (p + 1) in
@@ -82,8 +79,8 @@ stands_more A w l trees p a room below c symbol arity deep =
     )
 
 -- and its entry is looked at
-pub passed_more : (A w t l m : List ℕ) (trees stale p more e : ℕ) → Sized w t → p < length w → Passed A w t l trees stale (p + 1)
-    → Places A w p m (To more e) → Passed A w t m more (pick (eqb (get_or t p 0) e) stale p) p
+passed_more : (A w t l m : List ℕ) (trees stale p more e : ℕ) → Sized w t → p < length w → Passed A w t l trees stale (p + 1)
+    → Places A w p m (Some (more, e)) → Passed A w t m more (pick (eqb (get_or t p 0) e) stale p) p
 unfolding differs
 passed_more A w t l m trees stale p more e sized below c s =
     let g : Forest = behind A w (p + 1) in
@@ -95,19 +92,26 @@ passed_more A w t l m trees stale p more e sized below c s =
           ∙ ap (λ (n : ℕ). stale_from whose (length w) (pick (eqb (get_or t p 0) n) stale p)) (sym s.1);
     }
 
--- where no entry behind p is stale, and the one at p is not either
-pub agreed_more : (A w t l m : List ℕ) (trees p more e : ℕ) → Sized w t → p < length w → Passed A w t l trees (length w) (p + 1)
-    → Places A w p m (To more e) → get_or t p 0 ≡ e → Passed A w t m more (length w) p
-agreed_more A w t l m trees p more e sized below c s same =
-    subst (λ (b : Bool). Passed A w t m more (pick b (length w) p) p) (eq-eqb _ _ same)
-    (passed_more A w t l m trees (length w) p more e sized below c s)
+-- where the entry at p is the row's
+pub fresh_more : (A w t l m : List ℕ) (trees stale p more e : ℕ) → Sized w t → p < length w → Passed A w t l trees stale (p + 1)
+    → Places A w p m (Some (more, e)) → get_or t p 0 ≡ e → Passed A w t m more stale p
+fresh_more A w t l m trees stale p more e sized below c s same =
+    subst (λ (b : Bool). Passed A w t m more (pick b stale p) p) (eq-eqb _ _ same)
+    (passed_more A w t l m trees stale p more e sized below c s)
+
+-- and where it is not
+pub stale_more : (A w t l m : List ℕ) (trees stale p more e : ℕ) → Sized w t → p < length w → Passed A w t l trees stale (p + 1)
+    → Places A w p m (Some (more, e)) → (get_or t p 0 ≡ e → ⊥) → Passed A w t m more p p
+stale_more A w t l m trees stale p more e sized below c s other =
+    subst (λ (b : Bool). Passed A w t m more (pick b stale p) p) (ne_eqb _ _ other)
+    (passed_more A w t l m trees stale p more e sized below c s)
 
 -- the whole row is read: it is one tree's exactly if one tree is there
 pub stop_count : (A w t l : List ℕ) (trees stale : ℕ) → Passed A w t l trees stale 0 → (trees ≡ 1 → ⊥) → Accepted A w → ⊥
 unfolding behind
 stop_count A w t l trees stale c n e = n (c.stands.counted ∙ count-parse A (allowed Symbols A) w 1 0 e)
 
-pub passed_all : (A w t l : List ℕ) (trees stale : ℕ) → Passed A w t l trees stale 0 → trees ≡ 1 → Sees A w t (Tree stale)
+pub passed_all : (A w t l : List ℕ) (trees stale : ℕ) → Passed A w t l trees stale 0 → trees ≡ 1 → Sees A w t (Some stale)
 unfolding behind fresh table
 passed_all A w t l trees stale c one =
     let it = lone (parse A w) (sym c.stands.counted ∙ one) in

@@ -1,6 +1,6 @@
 -- Inside: no public contract cites what stands in this file, and no reader has to believe it.
 -- What the checks leave to go on with, and what filling a table asks for.
-use Rattle.std.specs.Prelude.{ℕ, ◌+◌, ◌≤◌, ◌≡◌, List, ltb, length, take}
+use Rattle.std.specs.Prelude.{ℕ, ◌+◌, ◌≤◌, ◌≡◌, List, ltb, length, take, Ok, Err, Option, Some, None}
 use Rattle.rows.specs.Limits.{row_most}
 use Rattle.rows.specs.Row.{pick}
 use Rattle.rows.specs.Reading.{Accepted}
@@ -11,11 +11,6 @@ use Rattle.rows.specs.Refusals.{fresh}
 use Rattle.rows.specs.declared.Kept.{Kept}
 use Rattle.rows.specs.declared.Kept.TheVariants.{Stale}
 use Rattle.rows.specs.declared.Refusal.{Refusal}
-use Rattle.rows.specs.declared.Check.TheVariants.{Fine, Refused}
-use Rattle.tables.specs.declared.Seen.{Seen}
-use Rattle.tables.specs.declared.Seen.TheVariants.{NoTree, Tree}
-use Rattle.tables.specs.declared.Asked.{Asked}
-use Rattle.tables.specs.declared.Asked.TheVariants.{Right as OnlyRight, First}
 
 -- a row of at most so many symbols is tiny, short, fair, and of middle length: the ends of its trees are kept in less room
 abbrev pub tiny : ℕ
@@ -59,12 +54,6 @@ pub record Fillable (A w t : List ℕ) (at : ℕ) : Type 0 where
 
 -- what the pass over a row and a table sees: the row is no tree's; or it is one's, and the first entry that is not the row's
 -- stands at k, none where k is past the row
-abbrev pub Sees : List ℕ → List ℕ → List ℕ → Seen → Type 0
-Sees A w t NoTree = Accepted A w → ⊥
-Sees A w t (Tree k) = Accepted A w × ((whose : Kept → Refusal) → fresh whose A w t ≡ pick (ltb k (length w)) (Refused (whose (Stale k))) Fine)
-
--- what is answered to what is asked: where only that all is right was asked, another answer says nothing
-abbrev pub Answers : List ℕ → List ℕ → List ℕ → Asked → Seen → Type 0
-Answers A w t First r = Sees A w t r
-Answers A w t OnlyRight NoTree = Unit {0}
-Answers A w t OnlyRight (Tree k) = Sees A w t (Tree k)
+abbrev pub Sees : List ℕ → List ℕ → List ℕ → Option ℕ → Type 0
+Sees A w t None = Accepted A w → ⊥
+Sees A w t (Some k) = Accepted A w × ((whose : Kept → Refusal) → fresh whose A w t ≡ pick (ltb k (length w)) (Err (whose (Stale k))) (Ok tt))

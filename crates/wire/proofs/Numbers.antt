@@ -9,42 +9,14 @@ use native.Mathlib.Omega.{arith}
 use lib.ListN.{length, get_or, set, take, drop, length-set}
 use lib.Seq.{length-take-le, take_at}
 use Rattle.rows.specs.Buffers.{written}
-use Rattle.wire.specs.Wire.{numbers, bytes_of, with_number, Bytes}
-
--- one place more is two bytes more
-twice : (j : ℕ) → 2 * suc j ≡ suc (suc (2 * j))
-twice j = omega arith
-
-twice_and_one : (j : ℕ) → 2 * suc j + 1 ≡ suc (suc (2 * j + 1))
-twice_and_one j = omega arith
-
--- the number of a pair of bytes
-pair_is : (v : ℕ) → v % 256 + 256 * (v / 256) ≡ v
-pair_is v = omega arith
-
--- there are half as many numbers as bytes
-pub numbers-length : (bs : List ℕ) → length (numbers bs) ≡ length bs / 2
-unfolding numbers
-numbers-length [] = refl
-numbers-length (a ∷ []) = refl
-numbers-length (a ∷ (b ∷ rest)) = omega (arith, numbers-length rest)
+use Rattle.rows.specs.Bytes.{numbers}
+use Rattle.wire.specs.Wire.{bytes_of, with_number, Bytes}
+pub use Rattle.rows.proofs.Bytes.{twice, twice_and_one, pair_is, numbers-length, pair_within, pairs, number_at, numbers_part}
 
 pub bytes_of-length : (vs : List ℕ) → length (bytes_of vs) ≡ 2 * length vs
 unfolding bytes_of
 bytes_of-length [] = refl
 bytes_of-length (v ∷ vs) = omega (arith, bytes_of-length vs)
-
--- both bytes of a number are there
-pub pair_within : (bs : List ℕ) (i : ℕ) → i < length (numbers bs) → 2 * i + 1 < length bs
-pair_within bs i h = omega (arith, numbers-length bs)
-
--- the number at place i
-pub number_at : (bs : List ℕ) (i : ℕ) → 2 * i + 1 < length bs → get_or (numbers bs) i 0 ≡ get_or bs (2 * i) 0 + 256 * get_or bs (2 * i + 1) 0
-unfolding numbers
-number_at [] i h = absurd (omega arith)
-number_at (a ∷ []) i h = absurd (omega arith)
-number_at (a ∷ (b ∷ rest)) zero h = refl
-number_at (a ∷ (b ∷ rest)) (suc j) h = rw (twice_and_one, twice) (number_at rest j (omega arith))
 
 -- one number more read to the front of a list
 next : (ns out : List ℕ) (i : ℕ) → i < length ns → i < length out → set (take i ns ++ drop i out) i (get_or ns i 0) ≡ take (suc i) ns ++ drop (suc i) out
@@ -160,6 +132,12 @@ back (a ∷ (b ∷ rest)) small =
     rw (twice (length (numbers rest)), low, high)
     (ap (λ (l : List ℕ). a ∷ (b ∷ l)) (back rest (λ i. small (suc (suc i)))))
 
+-- the bytes of the numbers stand at the front
+pub bytes_front : (bs : List ℕ) → Bytes bs → take (2 * length (numbers bs)) bs ≡ bytes_of (numbers bs)
+bytes_front bs small =
+    let n = 2 * length (numbers bs) in
+    ap (take n) (sym (back bs small)) ∙ take_at (bytes_of (numbers bs)) (drop n bs) n (bytes_of-length (numbers bs))
+
 pub write_read : (bs : List ℕ) → Bytes bs → written bs 0 (bytes_of (numbers bs)) ≡ bs
 write_read bs small = written_is bs (numbers bs) ∙ back bs small
 
@@ -195,24 +173,6 @@ written_again bs vs small h =
     ∙ written_is bs (vs ++ drop (length vs) (numbers bs))
     ∙ again bs vs small h
     ∙ sym (written_is bs vs)
-
--- the numbers of a part, which begins behind b numbers and has m
-numbers-drop : (bs : List ℕ) (b : ℕ) → numbers (drop (2 * b) bs) ≡ drop b (numbers bs)
-unfolding numbers
-numbers-drop bs zero = refl
-numbers-drop [] (suc b) = rw (twice b) refl
-numbers-drop (x ∷ []) (suc b) = rw (twice b) refl
-numbers-drop (x ∷ (y ∷ rest)) (suc b) = rw (twice b) (numbers-drop rest b)
-
-numbers-take : (bs : List ℕ) (m : ℕ) → numbers (take (2 * m) bs) ≡ take m (numbers bs)
-unfolding numbers
-numbers-take bs zero = refl
-numbers-take [] (suc m) = rw (twice m) refl
-numbers-take (x ∷ []) (suc m) = rw (twice m) refl
-numbers-take (x ∷ (y ∷ rest)) (suc m) = rw (twice m) (ap (λ (l : List ℕ). (x + 256 * y) ∷ l) (numbers-take rest m))
-
-pub numbers_part : (bs : List ℕ) (b m : ℕ) → numbers (take (2 * m) (drop (2 * b) bs)) ≡ take m (drop b (numbers bs))
-numbers_part bs b m = numbers-take (drop (2 * b) bs) m ∙ ap (take m) (numbers-drop bs b)
 
 -- the bytes of numbers behind others
 pub bytes_of-append : (us vs : List ℕ) → bytes_of (us ++ vs) ≡ bytes_of us ++ bytes_of vs

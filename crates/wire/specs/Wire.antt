@@ -1,11 +1,6 @@
 -- Numbers as lent bytes: two bytes each, the low one first.
 use Rattle.std.specs.Prelude.{ℕ, ◌+◌, ◌*◌, ◌/◌, ◌%◌, ◌<◌, List, [], ◌∷◌, get_or, set}
-
--- the numbers that bytes hold; an odd last byte is not counted
-unfoldable pub numbers : List ℕ → List ℕ
-numbers [] = []
-numbers (a ∷ []) = []
-numbers (a ∷ (b ∷ rest)) = (a + 256 * b) ∷ numbers rest
+unfoldable pub use Rattle.rows.specs.Bytes.{numbers}
 
 -- the bytes of numbers
 unfoldable pub bytes_of : List ℕ → List ℕ

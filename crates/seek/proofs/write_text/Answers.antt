@@ -13,9 +13,9 @@ pub loop-first-preserved : goal.loop-first-preserved
 loop-first-preserved g c =
     let before = c.loop-first.invariant in
     let page = c.print_page-page.ensures in
-    let ls = lines_of c.args.response c.args.numbers.now c.args.positions.now in (
+    let ls = lines_of c.args.told.response c.args.told.numbers.now c.args.told.positions.now in (
       omega (arith, page.within, before.1),
       before.1,
       search rules,
-      page_more _ _ _ ls c.loop-first.first c.print_page-page.result c.print_page-page.new.out page before.3 c.in_ok-write_out.ensures,
+      page_more _ _ _ ls c.loop-first.first c.print_page-page.result c.print_page-page.new.out page before.3 c.in_ok-write_all.ensures.bytes,
     )

@@ -7,7 +7,7 @@ use Rattle.seek.proofs.write_text.Given as goal
 -- Each page goes on behind the one before: the lines before the next one went out.
 abbrev pub invariant-loop-first : goal.invariant-loop-first
 invariant-loop-first g l =
-    let ls = lines_of l.response l.numbers l.positions in
+    let ls = lines_of l.told.response l.told.numbers.now l.told.positions.now in
     (l.first ≤ l.count)
     × (l.count ≡ length ls)
     × (length l.out ≡ length l.initial.out)

@@ -1,0 +1,16 @@
+-- `c_bars::reader::read_bytes` meets its contract. An alphabet that is too long is refused for that.
+use Rattle.std.proofs.Common.{ℕ, ◌<◌, length, ap, arith, Err}
+use Rattle.rows.specs.Limits.{alphabet_most}
+use Rattle.rows.specs.declared.Arities.TheVariants.{Count}
+use Rattle.rows.specs.declared.Refusal.TheVariants.{Arities}
+use Rattle.wire.specs.Wire.{numbers}
+use Rattle.c_bars.proofs.Calls.{read_refused, read_alphabet_long}
+use Rattle.c_bars.proofs.reader.read_bytes.Goals as goal
+
+pub returns-then-k-gt-ALPHABET_MOST : goal.returns-then-k-gt-ALPHABET_MOST
+returns-then-k-gt-ALPHABET_MOST c =
+    let A = numbers c.args.arities.now in
+    let v = numbers c.args.bars.now in
+    let over : alphabet_most < length A = omega (arith, c.count-k.ensures) in
+    read_refused A v c.args.row.now (λ i. (c.type_inv.row i).fits) (Arities (Count (length A))) _ (read_alphabet_long A v _ over)
+    (ap (λ (m : ℕ). Err (Arities (Count m))) c.count-k.ensures)

@@ -1,0 +1,10 @@
+use Rattle.std.proofs.Common.{◌-◌}
+use Rattle.rows.specs.Reading.{SymbolsTo}
+use Rattle.rows.proofs.read_symbols.Given as goal
+
+-- the row is read up to i
+abbrev pub invariant-loop-i : goal.invariant-loop-i
+invariant-loop-i g l = SymbolsTo l.fn.arities (g.E.Piece.numbers l.fn.row) l.i l.due
+
+abbrev pub decreases-loop-i : goal.decreases-loop-i
+decreases-loop-i g l = l.n - l.i

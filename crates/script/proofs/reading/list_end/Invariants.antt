@@ -1,9 +1,0 @@
-use Rattle.std.proofs.Common.{◌≤◌, ◌-◌, length}
-use Rattle.script.proofs.reading.list_end.Given as goal
-
--- The end is at most the length, and not before the start.
-abbrev pub invariant-loop-end : goal.invariant-loop-end
-invariant-loop-end l = (l.from ≤ l.end) × (l.end ≤ length l.case)
-
-abbrev pub decreases-loop-end : goal.decreases-loop-end
-decreases-loop-end l = length l.case - l.end
