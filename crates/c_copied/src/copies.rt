@@ -1,5 +1,5 @@
 // Copies of lent numbers.
-ghost use Rattle.std.specs.Prelude.{◌≡◌, ◌≤◌, min, length, take};
+ghost use Rattle.std.specs.Prelude.{◌≡◌, ◌≤◌, min, length, take, replicate};
 ghost use Rattle.rows.specs.Limits.{alphabet_most, row_most};
 ghost use Rattle.rows.specs.Programme.{programme, programme_of, room as places};
 ghost use Rattle.wire.specs.Wire.{numbers};
@@ -18,8 +18,10 @@ pub struct Copies<const N: usize> {
 }
 
 impl<const N: usize> Copies<N> {
-    // Nothing is copied yet.
-    pub fn new() -> Self {
+    // Nothing is copied yet: each place is 0.
+    pub fn new() -> Self
+        ensures { (result.row ≡ replicate N 0) × (result.table ≡ replicate N 0) × (result.classes ≡ replicate N 0) }
+    {
         Self {
             row: [0u16; N],
             table: [0u16; N],
