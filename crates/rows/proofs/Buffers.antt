@@ -14,7 +14,7 @@ pub length-written : (b : List ℕ) (at : ℕ) (v : List ℕ) → at + length v 
 unfolding written
 length-written b at v h = simp (length-append, length-take, length-drop) (omega arith)
 
-pub written_nil : (b : List ℕ) (at : ℕ) → written b at [] ≡ b
+pub written_nil : {X : Type 0} (b : List X) (at : ℕ) → written b at [] ≡ b
 unfolding written
 written_nil b at = rw (add-zero at, take-append-drop at b)
 
@@ -28,13 +28,13 @@ unfolding written
 written_behind b v = drop_at v (drop (0 + length v) b) (length v) refl ∙ ap (λ (n : ℕ). drop n b) (zero-add (length v))
 
 -- one number more at the end of what is written
-pub written_snoc : (b : List ℕ) (at : ℕ) (v : List ℕ) (x : ℕ) → at + length v < length b
+pub written_snoc : {X : Type 0} (b : List X) (at : ℕ) (v : List X) (x : X) → at + length v < length b
     → set (written b at v) (at + length v) x ≡ written b at (v ++ (x ∷ []))
 unfolding written
 written_snoc b at v x h =
     let l : length (take at b ++ v) ≡ at + length v = simp (length-append, length-take) (omega arith) in
     let s : length (v ++ (x ∷ [])) ≡ suc (length v) = simp length-append (omega arith) in
-    rw (drop-cons b (at + length v) 0 h, ← append_assoc (take at b) v, set_at (take at b ++ v) _ _ x _ l, s, add-suc) (simp append_assoc)
+    rw (drop-cons b (at + length v) x h, ← append_assoc (take at b) v, set_at (take at b ++ v) _ _ x _ l, s, add-suc) (simp append_assoc)
 
 -- two programmes with the same lists
 pub same_programme : {w w' t t' c c' : List ℕ} → w ≡ w' → t ≡ t' → c ≡ c' → programme w t c ≡ programme w' t' c'

@@ -1,9 +1,8 @@
 -- What a check that reads a list from left to right says at position i, from the element there: the step of each loop.
 -- Assumes nothing.
 use Rattle.std.specs.Prelude.{Result, Ok, Err, ⊤}
-use Rattle.std.specs.List.{list_any}
 use Prim.Native.Nat.{ℕ, zero, suc, ◌+◌, ◌-◌, ◌≤◌, ◌<◌}
-use mathlib.Core.Path.{◌≡◌, refl, sym, ap, ◌∙◌, subst}
+use mathlib.Core.Path.{◌≡◌, refl, ap, ◌∙◌, subst}
 use mathlib.Core.List.{List, [], ◌∷◌}
 use mathlib.Core.Bool.{Bool, true, false}
 use native.Mathlib.Numerals.{add-one}
@@ -21,7 +20,7 @@ use Rattle.rows.specs.Refusals.{arities_fit, some_leaf}
 use Rattle.rows.specs.declared.Fault.{Fault}
 use Rattle.rows.specs.declared.Fault.TheVariants.{Empty, Long, Stray, Early, Extra}
 use Rattle.rows.specs.Limits.{arity_most}
-use Rattle.rows.specs.declared.Arities.TheVariants.{Over, NoLeaf}
+use Rattle.rows.specs.declared.Arities.TheVariants.{Over}
 use Rattle.rows.specs.declared.Refusal.TheVariants.{Arities}
 
 -- the list from i on is its element there and the list from i + 1 on
@@ -151,13 +150,3 @@ sized_fits n m e = go (ltb n 1) (ltb m n) refl refl e
 pub sized_whole : (n most : ℕ) → 0 < n → n ≤ most → sized n most ≡ Ok tt
 unfolding sized
 sized_whole n most h k = rw (le-ltb n 1 h, le-ltb most n k) refl
-
--- some symbol is a leaf exactly if some arity is 0, by whatever test tells that
-pub leaf_any : (zero_is : ℕ → Bool) → ((a : ℕ) → zero_is a ≡ eqb a 0) → (l : List ℕ) → some_leaf l ≡ pick (list_any zero_is l) (Ok tt) (Err (Arities NoLeaf))
-unfolding some_leaf
-leaf_any t h [] = refl
-leaf_any t h (a ∷ l) = go (t a) refl (leaf_any t h l)
-  where
-    go : (b : Bool) → t a ≡ b → some_leaf l ≡ pick (list_any t l) (Ok tt) (Err (Arities NoLeaf)) → some_leaf (a ∷ l) ≡ pick (list_any t (a ∷ l)) (Ok tt) (Err (Arities NoLeaf))
-    go true e on = simp (e, sym (h a) ∙ e)
-    go false e on = simp (e, sym (h a) ∙ e, on)

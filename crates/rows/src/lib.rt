@@ -173,17 +173,21 @@ fn largest<E: Piece>(part: &[E]) -> u16
 // So many numbers are looked at together.
 const GLANCE: usize = 64;
 
-// How many numbers at the front are below the bound for sure: whole stretches, up to the first that has another number.
+// How many numbers at the front are below the bound for sure: whole stretches, up to the first that has another number, and the rest.
+// A stretch is so many numbers wherever it begins: for a length that is computed the compiler makes slower code.
 fn count_below<E: Piece>(bound: usize, list: &[E]) -> usize
     ensures { BelowTo bound (E.numbers list.now) result }
 {
     let n = E::count(list);
-    for k in 0..n.div_ceil(GLANCE) {
+    for k in 0..n / GLANCE {
         let from = k * GLANCE;
-        let end = from + GLANCE.min(n - from);
-        if bound <= usize::from(largest(E::part(list, from, end))) {
+        if bound <= usize::from(largest(E::part(list, from, from + GLANCE))) {
             return from;
         }
+    }
+    let whole = n / GLANCE * GLANCE;
+    if bound <= usize::from(largest(E::part(list, whole, n))) {
+        return whole;
     }
     n
 }
@@ -204,11 +208,14 @@ fn check_arities(arities: &[u16]) -> Result<(), Refusal>
 }
 
 // Refusal 3: no symbol of arity 0.
+// Stays a loop: most alphabets begin with a leaf, and `contains` looks at many symbols before it can leave.
 fn check_leaf(arities: &[u16]) -> Result<(), Refusal>
     ensures { result ≡ some_leaf arities.now }
 {
-    if arities.contains(&0) {
-        return Ok(());
+    for &a in arities {
+        if a == 0 {
+            return Ok(());
+        }
     }
     Err(Refusal::Arities(Arities::NoLeaf))
 }
@@ -333,28 +340,37 @@ fn add_arities<E: Piece>(arities: &[u16], part: &[E]) -> usize
     sum
 }
 
-// Reads the symbols up to `end`, two a turn, and stops where nothing may be due any more.
-// Stays a loop by index: two symbols a turn, and the place reached is the answer.
-fn read_pairs<E: Piece>(arities: &[u16], row: &[E], from: Reached, end: usize) -> Reached
+// Reads the symbols up to `end`, four a turn, and stops where nothing may be due any more.
+// Stays a loop by index: four symbols a turn, and the place reached is the answer.
+fn read_fours<E: Piece>(arities: &[u16], row: &[E], from: Reached, end: usize) -> Reached
     requires read { SymbolsTo arities.now (E.numbers row.now) from.at from.due × (length (E.numbers row.now) ≤ row_most) }
     requires below { BelowTo (length arities.now) (E.numbers row.now) end }
     ensures { SymbolsTo arities.now (E.numbers row.now) result.at result.due }
 {
     let mut i = from.at;
     let mut due = from.due;
-    while i + 1 < end {
-        let between = due + arity_at(arities, row, i);
-        if due == i || between == i + 1 {
+    while i + 4 <= end {
+        let second = due + arity_at(arities, row, i);
+        if due == i || second == i + 1 {
             return Reached { at: i, due };
         }
-        due = between + arity_at(arities, row, i + 1);
-        i += 2;
+        let third = second + arity_at(arities, row, i + 1);
+        let fourth = third + arity_at(arities, row, i + 2);
+        if third == i + 2 || fourth == i + 3 {
+            return Reached {
+                at: i + 2,
+                due: third,
+            };
+        }
+        due = fourth + arity_at(arities, row, i + 3);
+        i += 4;
     }
     Reached { at: i, due }
 }
 
-// Reads at most the n numbers at the front, which are symbols, stretch by stretch, and stops where nothing may be due any more.
-// Stays a loop by index: the place reached is the answer, and where it ends within a stretch the rest is read otherwise.
+// Reads at most the n numbers at the front, which are symbols: a stretch where as many are due, else so many as are looked at together,
+// by fours. Stops where nothing may be due any more, and where less than a stretch is left.
+// Stays a loop by index: the place reached is the answer.
 fn read_symbols<E: Piece>(arities: &[u16], row: &[E], n: usize) -> Reached
     requires { BelowTo (length arities.now) (E.numbers row.now) n × (length (E.numbers row.now) ≤ row_most) }
     ensures { SymbolsTo arities.now (E.numbers row.now) result.at result.due }
@@ -368,22 +384,26 @@ fn read_symbols<E: Piece>(arities: &[u16], row: &[E], n: usize) -> Reached
             i = end;
             continue;
         }
-        let after = read_pairs(arities, row, Reached { at: i, due }, end);
-        if after.at < end {
+        let far = n.min(i + GLANCE);
+        let after = read_fours(arities, row, Reached { at: i, due }, far);
+        if after.at < far {
             return after;
         }
         i = after.at;
         due = after.due;
     }
-    read_pairs(arities, row, Reached { at: i, due }, n)
+    Reached { at: i, due }
 }
 
 // Is it a tree's prefix notation, with these leaves? The symbols at the front are read fast, without asking of each
-// whether it is one.
+// whether it is one; a list shorter than a stretch is sooner read number by number.
 pub fn check_row<E: Piece>(arities: &[u16], row: &[E], leaves: Leaves) -> Result<(), Fault>
     requires { length (E.numbers row.now) ≤ row_most }
     ensures { result ≡ verdict arities.now (allowed leaves arities.now) 1 0 (E.numbers row.now) }
 {
+    if E::count(row) < STRETCH {
+        return read_on(arities, row, leaves, Reached { at: 0, due: 1 });
+    }
     let n = count_below(arities.len(), row);
     let front = read_symbols(arities, row, n);
     read_on(arities, row, leaves, front)

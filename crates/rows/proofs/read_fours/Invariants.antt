@@ -1,6 +1,6 @@
 use Rattle.std.proofs.Common.{◌-◌}
 use Rattle.rows.specs.Reading.{SymbolsTo}
-use Rattle.rows.proofs.read_pairs.Given as goal
+use Rattle.rows.proofs.read_fours.Given as goal
 
 -- the row is read up to i
 abbrev pub invariant-loop-i : goal.invariant-loop-i
