@@ -87,6 +87,8 @@ seek_installed() {
     env -i "$prefix/bin/seek" <examples/programme.txt | diff <(printf 'matches 2\nat 1 4 0:2-3\nat 6 9 0:7-8\n') - &&
         cmp man/seek.1 "$prefix/share/man/man1/seek.1" && grep -q "Sparrowhem $(sed -n 's/^Version: //p' "$prefix/lib/pkgconfig/sparrowhem.pc")" man/seek.1
 }
+# What the archive needs from outside, as docs/HOST.md says.
+needs_little() { nm -u $archive | sed -n 's/^ *U //p' | sort -u | diff <(printf 'memcpy\nmemset\n') -; }
 # stacked PROGRAM: one that measures the stack, on the rows of the benchmark.
 stacked() { "$@" <$out/rows; }
 thread_by_gcc() {
@@ -98,6 +100,7 @@ checks_by_gcc() {
 }
 
 try "the archive is proved and built" build_archive
+try "and needs memcpy and memset alone" needs_little
 try "the header is C99" header_as gcc -x c -std=c99 -pedantic
 try "the header is C11" header_as gcc -x c -std=c11 -pedantic
 try "the header is C++" header_as "$kit_tools/bin/clang" --target=$kit_target -nostdinc -isystem host/freestanding -x c++ -std=c++11 -pedantic

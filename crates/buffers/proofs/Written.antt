@@ -1,15 +1,15 @@
--- Laws of `written`: the turns of a loop that writes a list into a buffer; parts
+-- Laws of `written`: the turns of a loop that writes a list into a buffer, from its first number on or from its last; parts
 -- that are written side by side; a part that was lent to a callee.
 -- Assumes nothing.
 use Prim.Native.Nat.{ℕ, zero, suc, ◌+◌, ◌-◌, ◌≤◌, ◌<◌}
 use mathlib.Core.Path.{◌≡◌, refl, sym, ap, ◌∙◌}
 use mathlib.Core.List.{List, [], ◌∷◌, ◌++◌, map, append_assoc, append-nil}
-use native.Mathlib.Nat.{add-zero, zero-add, add_assoc}
+use native.Mathlib.Nat.{add-zero, add-suc, suc-add, zero-add, add_assoc}
 use native.Mathlib.Numerals.{add-one}
 use native.Mathlib.Omega.{arith}
 use borrow.Rule.Slice.PartMut.{put_mid}
 use lib.ListN.{length, length-map, take, drop, set, get_or, length-append, length-take, length-drop, take-append-drop, get_or-append, drop_of_length-le}
-use lib.Seq.{drop-cons, take_all, take-take, drop-drop, take_at, drop_at, length-take-le, take-suc, set-get_or, get_or-append-add, take-append-le, get_or-drop}
+use lib.Seq.{drop-cons, take_all, take-take, drop-drop, take_at, drop_at, length-take-le, take-suc, set_at, set-get_or, get_or-append-add, take-append-le, get_or-take, get_or-drop}
 use Rattle.std.proofs.lemmas.List.{get_or_at}
 use Rattle.rows.specs.Buffers.{written}
 use Rattle.rows.proofs.Buffers.{written_nil, written_snoc}
@@ -21,6 +21,13 @@ written_still b at len h =
     let l : len ≤ length (drop at b) = simp length-drop (omega arith) in
     rw (length-take-le len (drop at b) l, ← drop-drop len at b, take-append-drop len (drop at b), take-append-drop at b)
 
+-- one number more at the front of what is written
+written_cons : (b : List ℕ) (k : ℕ) (v : List ℕ) (x : ℕ) → k < length b → set (written b (suc k) v) k x ≡ written b k (x ∷ v)
+unfolding written
+written_cons b k v x h =
+    let l : length (take k b) ≡ k = length-take-le k b (omega arith) in
+    rw (take-suc b k 0 h, append_assoc, set_at (take k b) _ _ x _ l, add-suc, suc-add)
+
 -- what the library says of a part that is copied, and of one that is lent and written over
 pub written_to : {X : Type 0} (b v : List X) (at n : ℕ) → n ≡ at + length v → take at b ++ (v ++ drop n b) ≡ written b at v
 unfolding written
@@ -30,7 +37,7 @@ pub written_part : {X : Type 0} (b v : List X) (at k : ℕ) → length v ≡ k �
 unfolding written
 written_part b v at k e = rw (drop-drop k at b, ← e) refl
 
--- what stands behind the written part
+-- what stands behind the written part, and before it
 written_after : (b : List ℕ) (at : ℕ) (v : List ℕ) (j : ℕ) → at + length v ≤ j → at + length v ≤ length b
     → get_or (written b at v) j 0 ≡ get_or b j 0
 unfolding written
@@ -45,12 +52,19 @@ written_after b at v j h r =
     ∙ get_or-drop (at + length v) b k 0
     ∙ ap (λ (i : ℕ). get_or b i 0) e')
 
+written-before : (b : List ℕ) (at : ℕ) (v : List ℕ) (j : ℕ) → j < at → at ≤ length b → get_or (written b at v) j 0 ≡ get_or b j 0
+unfolding written
+written-before b at v j h r =
+    let l : length (take at b) ≡ at = length-take-le at b r in
+    get_or-append (take at b) (v ++ drop (at + length v) b) 0 j (omega arith) ∙ get_or-take at b j 0 h
+
 pub get_d_map : (g : ℕ → ℕ) (l : List ℕ) (i : ℕ) → i < length l → get_or (map g l) i 0 ≡ g (get_or l i 0)
 get_d_map g [] i h = absurd (omega arith)
 get_d_map g (x ∷ l) zero h = refl
 get_d_map g (x ∷ l) (suc i) h = get_d_map g l i (omega arith)
 
--- A loop that writes the list s from place `at` on: after i turns the first i stand, and what is behind them is as it was.
+-- A loop that writes the list s from place `at` on. From its first number on: after i turns the first i stand, and what is
+-- behind them is as it was.
 module _ (b : List ℕ) (at : ℕ) (s : List ℕ) (i : ℕ) where
   pub turn : i < length s → at + i < length b → set (written b at (take i s)) (at + i) (get_or s i 0) ≡ written b at (take (i + 1) s)
   turn h r =
@@ -63,6 +77,23 @@ module _ (b : List ℕ) (at : ℕ) (s : List ℕ) (i : ℕ) where
   unturned j h o r =
       let l : length (take i s) ≡ i = length-take-le i s h in
       written_after b at (take i s) j (omega arith) (omega arith)
+
+  -- from its last number on: while i are left, the others stand, and what is before them is as it was
+  pub turn_back : i < length s → at + i < length b
+      → set (written b (at + (i + 1)) (drop (i + 1) s)) (at + i) (get_or s i 0) ≡ written b (at + i) (drop i s)
+  turn_back h r = rw (add-one, add-suc, written_cons b (at + i) (drop (suc i) s) (get_or s i 0) r, ← drop-cons s i 0 h)
+
+  pub unturned_back : (j : ℕ) → j < at + i → at + i ≤ length b → get_or (written b (at + i) (drop i s)) j 0 ≡ get_or b j 0
+  unturned_back j o r = written-before b (at + i) (drop i s) j o r
+
+-- a loop that writes a list of whatever elements to the front: x is the one that is next
+pub turn_front : {X : Type 0} (b s : List X) (i : ℕ) (x : X) → x ≡ get_or s i x → i < length s → i < length b
+    → set (written b 0 (take i s)) i x ≡ written b 0 (take (i + 1) s)
+turn_front b s i x is h r =
+    let l : length (take i s) ≡ i = length-take-le i s (omega arith) in
+    let front : 0 + length (take i s) ≡ i = omega arith in
+    let next : take (i + 1) s ≡ take i s ++ (x ∷ []) = rw add-one (take-suc s i x h ∙ ap (λ y. take i s ++ (y ∷ [])) (sym is)) in
+    ap (λ (k : ℕ). set (written b 0 (take i s)) k x) (sym front) ∙ written_snoc b 0 (take i s) x (omega arith) ∙ ap (written b 0) (sym next)
 
 -- numbers that are as they were need no writing
 pub unwritten : (b : List ℕ) (at : ℕ) (s : List ℕ) (i d : ℕ) → i + d ≤ length s → at + length s ≤ length b

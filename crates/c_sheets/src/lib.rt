@@ -111,13 +111,15 @@ fn answer_sheet(
         arities, programme, patterns, lengths, room, gathered, &mut kept,
     );
     rows::check_room(count, wire::count(positions))?;
-    wire::encode(&kept[..n], results);
     if wire::count(gathered) < count {
-        return Ok(answer_patterns(
+        answer_patterns(
             arities, programme, patterns, lengths, room, positions, &mut kept,
-        ));
+        );
+        wire::encode(&kept[..n], results);
+        return Ok(count);
     }
     buffers::copy_into(positions, &gathered[..2 * count]);
+    wire::encode(&kept[..n], results);
     Ok(count)
 }
 

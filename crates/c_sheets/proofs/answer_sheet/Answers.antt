@@ -66,6 +66,12 @@ returns-in_err-check_room c =
     let short = output_refused n.result c.count.result _ (sym c.check_room.ensures ∙ c.in_err-check_room.was) in
     sheet-bytes-short (a s) (P s) (qs s) (ls s) (out s) (res s) small small_results c.requires.0 n.result n.ensures.count (omega (arith, short.0, c.count.ensures)) c.from_residual.result (is ∙ ap Err short.1)
 
+pub answer_patterns-requires : goal.answer_patterns-requires
+answer_patterns-requires c =
+    let s = (goal.at.answer_patterns-requires c).Start in
+    let m = c.answer_patterns-count in
+    (able_kept s _ (omega (arith, m.auto.results)), omega (arith, c.requires.1, m.auto.room))
+
 pub slice_bounds-kept-end : goal.slice_bounds-kept-end
 slice_bounds-kept-end c =
     let s = (goal.at.slice_bounds-kept-end c).Start in
@@ -79,13 +85,7 @@ slice_bounds-encode-end c =
 pub encode-requires : goal.encode-requires
 encode-requires c =
     let s = (goal.at.encode-requires c).Start in
-    omega (arith, length-take (3 * length c.args.lengths.now) c.answer_patterns-count.new.results, (able s).room)
-
-pub answer_patterns-requires : goal.answer_patterns-requires
-answer_patterns-requires c =
-    let s = (goal.at.answer_patterns-requires c).Start in
-    let m = c.answer_patterns-count in
-    (able_kept s _ (omega (arith, m.auto.results)), omega (arith, c.requires.1, m.auto.room))
+    omega (arith, length-take (3 * length c.args.lengths.now) c.answer_patterns.new.results, (able s).room)
 
 pub returns-then-count : goal.returns-then-count
 returns-then-count c =
@@ -95,10 +95,10 @@ returns-then-count c =
     let small : Bytes c.args.positions.now = search rules in
     let small_results : Bytes c.args.results.now = search rules in
     let room = output_fine first.result c.count.result (sym c.check_room.ensures ∙ c.in_ok-check_room.was) in
-    let fits : again.result ≤ length (numbers (out s)) = omega (arith, room, c.count.ensures, first.ensures.count, again.ensures.count) in
-    sheet-bytes_all (a s) (P s) (qs s) (ls s) (out s) (res s) small small_results c.requires.0 again.result again.ensures.count fits _ _
-    (again.ensures.positions.front (omega (arith, again.ensures.count, fits)))
-    (c.encode.ensures ∙ ap (λ (l : List ℕ). written (res s) 0 (bytes_of l)) (front_read _ _ (rs s) _ first.ensures.results (sym (rs_length s))))
+    let fits : first.result ≤ length (numbers (out s)) = omega (arith, room, c.count.ensures) in
+    sheet-bytes_all (a s) (P s) (qs s) (ls s) (out s) (res s) small small_results c.requires.0 first.result first.ensures.count fits _ _
+    (again.ensures.positions.front (omega (arith, first.ensures.count, fits)))
+    (c.encode.ensures ∙ ap (λ (l : List ℕ). written (res s) 0 (bytes_of l)) (front_read _ _ (rs s) _ again.ensures.results (sym (rs_length s))))
 
 pub overflow_mul-count : goal.overflow_mul-count
 overflow_mul-count c =
@@ -114,7 +114,22 @@ slice_bounds-copy_into-end-2 c = sym (length-take-le _ _ (omega (arith, c.if-cou
 pub copy_into-requires : goal.copy_into-requires
 copy_into-requires c =
     let room = output_fine c.answer_patterns-count.result c.count.result (sym c.check_room.ensures ∙ c.in_ok-check_room.was) in
-    omega (arith, length-take (2 * c.answer_patterns-count.result) c.answer_patterns-count.new.out, room, c.count.ensures, numbers-length c.args.positions.now)
+    omega (arith, length-take {A = ℕ}, room, c.count.ensures, numbers-length c.args.positions.now)
+
+pub slice_bounds-kept-end-2 : goal.slice_bounds-kept-end-2
+slice_bounds-kept-end-2 c =
+    let s = (goal.at.slice_bounds-kept-end-2 c).Start in
+    omega (arith, (able s).few, c.answer_patterns-count.auto.results)
+
+pub slice_bounds-encode-end-2 : goal.slice_bounds-encode-end-2
+slice_bounds-encode-end-2 c =
+    let s = (goal.at.slice_bounds-encode-end-2 c).Start in
+    sym (length-take-le _ _ (omega (arith, (able s).few, c.answer_patterns-count.auto.results)))
+
+pub encode-requires-2 : goal.encode-requires-2
+encode-requires-2 c =
+    let s = (goal.at.encode-requires-2 c).Start in
+    omega (arith, length-take (3 * length c.args.lengths.now) c.answer_patterns-count.new.results, (able s).room)
 
 pub returns : goal.returns
 returns c =
@@ -131,4 +146,4 @@ returns c =
     let bytes : 2 * first.result ≡ length (bytes_of (ps s)) = omega (arith, m.count, bytes_of-length (ps s)) in
     sheet-bytes_all (a s) (P s) (qs s) (ls s) (out s) (res s) small small_results c.requires.0 first.result m.count fits _ _
     (c.copy_into.ensures ∙ ap (written (out s) 0) (front_read _ _ (bytes_of (ps s)) _ gathered bytes))
-    (c.encode.ensures ∙ ap (λ (l : List ℕ). written (res s) 0 (bytes_of l)) (front_read _ _ (rs s) _ m.results (sym (rs_length s))))
+    (c.encode-2.ensures ∙ ap (λ (l : List ℕ). written (res s) 0 (bytes_of l)) (front_read _ _ (rs s) _ m.results (sym (rs_length s))))
