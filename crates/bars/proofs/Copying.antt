@@ -57,10 +57,6 @@ module _ {v b b' : List ℕ} {n i : ℕ} (c : Copies v b b' n i) where
   some_left h =
       below i (length v) (λ k. k) (λ k. absurd (omega (arith, h, length-drop n (unbarred v), ap length (c.left ∙ ap unbarred (drop_of_length-le v k)))))
 
-  -- where no number is left, neither is a symbol
-  pub none_left : length v ≤ i → n ≡ length (unbarred v)
-  none_left h = below n (length (unbarred v)) (λ k. absurd (omega (arith, some_left k))) (λ k. omega (arith, c.few))
-
   -- all are copied
   pub all_copied : n ≡ length (unbarred v) → b' ≡ written b 0 (unbarred v)
   unfolding written

@@ -123,11 +123,12 @@ pub fn copy_symbols(bars: &[u16], row: &mut [u16])
 {
     let many = bars.len() / 2;
     let mut n = 0;
-    for &number in bars {
-        if n == many {
-            return;
-        }
+    let mut i = 0;
+    // Stays a loop by index: it ends with the last symbol, and one test a number is all that is needed.
+    while n < many {
+        let number = bars[i];
         row[n] = number;
         n += usize::from(number != rows::BAR);
+        i += 1;
     }
 }

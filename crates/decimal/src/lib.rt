@@ -5,7 +5,7 @@ ghost use Rattle.std.specs.Prelude.{◌≡◌, [], ◌∷◌, ◌++◌, Ok, Err,
 ghost use Rattle.rows.specs.Row.{pick};
 ghost use Rattle.decimal.specs.Lines.{numeral, number_most};
 ghost use Rattle.decimal.specs.Promises.{is_digit};
-ghost use Rattle.decimal.specs.Inside.{ends_number, NumberAt, LineAt, LineRoom, marked_most};
+ghost use Rattle.decimal.specs.Inside.{ends_number, NumberAt, LineAt, LineRoom, Printed, marked_most};
 ghost use Rattle.decimal.specs.Printing.{Put};
 
 // The largest number of a line.
@@ -119,6 +119,23 @@ pub fn read_line(
     }
 }
 
+// The digits of a number from a place on, where the buffer has room for them: all but the last, then the last. Answers the
+// place behind.
+// Stays apart from the printer: the place is memory there, and each digit would wait for the one before.
+fn put_digits(out: &mut [u8], at: usize, n: usize) -> usize
+    requires { at + length (numeral n) ≤ length out.old }
+    ensures { Printed out.old at (numeral n) result out.new }
+{
+    if n < 10 {
+        // Stays `as`, here and below: a digit fits, and `try_from` would answer an error that no call can give.
+        out[at] = b'0' + n as u8;
+        return at + 1;
+    }
+    let last = put_digits(out, at, n / 10);
+    out[last] = b'0' + (n % 10) as u8;
+    last + 1
+}
+
 // A lent buffer that is printed into, and the place behind what was printed.
 #[derive(Drop)]
 pub struct Printer<'a> {
@@ -146,24 +163,12 @@ impl Printer<'_> {
         self.at = end;
     }
 
-    // A number, where the buffer has room for it: all digits but the last, then the last.
-    fn put_number(&mut self, n: usize)
-        requires { self.old.at + length (numeral n) ≤ length self.old.out.now }
-        ensures { Put self.old (numeral n) self.new }
-    {
-        if 9 < n {
-            self.put_number(n / 10);
-        }
-        // Stays `as`: a remainder fits, and `try_from` would answer an error that no call can give.
-        self.put_byte(b'0' + (n % 10) as u8);
-    }
-
     // A mark and a number behind it, where the buffer has room for a mark and the longest number.
     pub fn put_marked(&mut self, mark: u8, n: usize)
         requires { self.old.at + marked_most ≤ length self.old.out.now }
         ensures { Put self.old (mark ∷ numeral n) self.new × (self.new.at ≤ self.old.at + marked_most) }
     {
         self.put_byte(mark);
-        self.put_number(n);
+        self.at = put_digits(self.out, self.at, n);
     }
 }
