@@ -28,7 +28,6 @@ fn build_under(
 {
     rows::check_symbols(&room[..k], row).map_err(Refusal::Row)?;
     tables::fill_ends(&room[..k], row, table);
-    room.fill(0);
     classes::fill_over(row, table, classes, room);
     Ok(wire::count(row))
 }

@@ -77,7 +77,7 @@ fn same_last<E: Piece>(row: &[E], table: &[E], list: &[E], p: usize, q: usize) -
 // What the children of a position show: where its subtree stands again for the last time; or the sign of the position.
 // Stays an enum of its own: both are answers, and neither is the lack of one or a failure.
 #[derive(Clone, Copy, Debug, PartialEq, Eq)]
-enum Sought {
+pub enum Sought {
     Told(usize),
     Sign(u64),
 }
@@ -306,7 +306,7 @@ fn name_all<E: Piece>(list: &mut [E], n: usize)
 
 // The classes of the row, whose table is right, are written to the front of the list, over heads that lead nowhere yet; later
 // places stay. Row, table and list may be the bytes of numbers.
-pub fn fill_over<E: Piece>(row: &[E], table: &[E], classes: &mut [E], heads: &mut [u16])
+fn fill_cleared<E: Piece>(row: &[E], table: &[E], classes: &mut [E], heads: &mut [u16])
     requires by_index { (A : List ℕ) × Right A (E.numbers row.now) (E.numbers table.now) }
     requires row_in_bounds { length (E.numbers row.now) ≤ length (E.numbers classes.old) }
     requires drawers { Drawers heads.old × ((h : ℕ) → get_or heads.old h 0 ≡ 0) }
@@ -315,6 +315,18 @@ pub fn fill_over<E: Piece>(row: &[E], table: &[E], classes: &mut [E], heads: &mu
 {
     fill_lasts(row, table, classes, heads);
     name_all(classes, E::count(row));
+}
+
+// The same over heads that are lent, whatever they hold.
+pub fn fill_over<E: Piece>(row: &[E], table: &[E], classes: &mut [E], heads: &mut [u16])
+    requires by_index { (A : List ℕ) × Right A (E.numbers row.now) (E.numbers table.now) }
+    requires row_in_bounds { length (E.numbers row.now) ≤ length (E.numbers classes.old) }
+    requires drawers { Drawers heads.old }
+    ensures filled { (A : List ℕ) → Right A (E.numbers row.now) (E.numbers table.now) → E.numbers classes.new ≡ written (E.numbers classes.old) 0 (classesOfRow A (E.numbers row.now)) }
+    ensures odd { E.odd classes.new ≡ E.odd classes.old }
+{
+    heads.fill(0);
+    fill_cleared(row, table, classes, heads);
 }
 
 // A row of at most so many symbols does with few heads.
@@ -341,9 +353,7 @@ pub fn fill_beside(row: &[u16], table: &[u16], classes: &mut [u16], room: &mut [
     ensures { (A : List ℕ) → Right A row.now table.now → classes.new ≡ written classes.old 0 (classesOfRow A row.now) }
 {
     let k = heads_of(row.len(), room.len());
-    let heads = &mut room[..k];
-    heads.fill(0);
-    fill_over(row, table, classes, heads);
+    fill_over(row, table, classes, &mut room[..k]);
 }
 
 // The same with N heads of its own. Not inlined, so that a call that takes few of them does not pay for many.
@@ -355,7 +365,7 @@ fn fill_in<const N: usize>(row: &[u16], table: &[u16], classes: &mut [u16])
     ensures { (A : List ℕ) → Right A row.now table.now → classes.new ≡ written classes.old 0 (classesOfRow A row.now) }
 {
     let mut heads = [0u16; N];
-    fill_over(row, table, classes, &mut heads);
+    fill_cleared(row, table, classes, &mut heads);
 }
 
 // The same with heads of its own, few for a short row.

@@ -1,11 +1,11 @@
--- `classes::fill_over` meets its contract.
+-- `classes::fill_cleared` meets its contract.
 use Rattle.std.proofs.Common.{sym, ◌∙◌, subst}
 use Rattle.rows.specs.Parse.{parse}
 use Rattle.rows.proofs.Parse.{size-parse}
 use Rattle.classes.specs.Lasts.{AllNamed}
 use Rattle.classes.proofs.Shown.{right_shown}
 use Rattle.classes.proofs.Front.{front_named}
-use Rattle.classes.proofs.fill_over.Goals as goal
+use Rattle.classes.proofs.fill_cleared.Goals as goal
 
 pub fill_lasts-requires-clause-seen : goal.fill_lasts-requires-clause-seen
 fill_lasts-requires-clause-seen g c =
