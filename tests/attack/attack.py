@@ -48,17 +48,20 @@ def versions(line):
 
 
 def bodies(lines):
-    """Each function's name with the numbers of its body's lines."""
-    name, inside = None, False
+    """Each function's name, a method's behind its type's, with the numbers of its body's lines."""
+    name, margin, inside, of = None, "", False, ""
     for number, line in enumerate(lines):
-        head = re.match(r'(?:pub )?(?:extern "C" )?fn (\w+)', line)
+        block = re.match(r"(?:pub )?(?:impl|trait)\b(?:<[^>]*>)? *(.*) \{$", line)
+        if block:
+            of = re.split(r"[<:]", block[1].split(" for ")[-1])[0].strip() + "::"
+        head = re.match(r'( *)(?:pub )?(?:extern "C" )?fn (\w+)', line)
         if head:
-            name = head[1]
-        if line == "}":
+            margin, name = head[1], (of if head[1] else "") + head[2]
+        if name and (line == margin + "}" or line.endswith(";") and not inside):
             name, inside = None, False
         if name and inside:
             yield name, number
-        if name and (line == "{" or line.endswith(") {")):
+        if name and (line == margin + "{" or (head or line.startswith(margin + ")")) and line.endswith(" {")):
             inside = True
 
 
