@@ -15,12 +15,24 @@ ghost use Rattle.class_checks.specs.Repeats.{Grants, Shows, SeenIn, Repeat, Skip
 use classes::{mix, shelf_of};
 use rows::{Kept, Programme};
 
+// A part of so many places or more is long.
+const LONG: usize = 16;
+
 // Are n places of the list from p on the same as those from q on?
+// Stays a loop where the part is not long: the library's comparison is a call, which takes more than that.
 fn same_part(list: &[u16], p: usize, q: usize, n: usize) -> bool
     requires { (p + n ≤ length list.now) × (q + n ≤ length list.now) }
     ensures { Says result (SamePart list.now p q n) }
 {
-    list[p..p + n] == list[q..q + n]
+    if LONG <= n {
+        return list[p..p + n] == list[q..q + n];
+    }
+    for i in 0..n {
+        if list[p + i] != list[q + i] {
+            return false;
+        }
+    }
+    true
 }
 
 // Position p is put before the others of drawer h, as one more.

@@ -1,13 +1,14 @@
 -- Laws of symbols that are read several at once, whichever leaves may stand beside them.
 -- Assumes nothing.
-use Prim.Native.Nat.{ℕ, zero, suc, ◌+◌, ◌≤◌, ◌<◌}
+use Prim.Native.Nat.{ℕ, zero, suc, ◌+◌, ◌-◌, ◌≤◌, ◌<◌}
 use mathlib.Core.Path.{◌≡◌, refl, sym, ap, ap₂, ◌∙◌, subst}
 use mathlib.Core.List.{List}
 use native.Mathlib.Omega.{arith}
+use Rattle.std.specs.Prelude.{◌≢◌}
 use lib.ListN.{length, get_or, take, drop, length-drop}
 use lib.Seq.{length-take-le, get_or-take, get_or-drop}
 use Rattle.rows.specs.Row.{allowed}
-use Rattle.rows.specs.Reading.{ReadTo, SymbolsTo, children}
+use Rattle.rows.specs.Reading.{ReadTo, BelowTo, SymbolsTo, children}
 use Rattle.rows.specs.declared.Leaves.{Leaves}
 use Rattle.rows.specs.declared.Leaves.TheVariants.{Symbols}
 use Rattle.rows.proofs.Scan.{read_start, read_next, allowed-symbol}
@@ -19,11 +20,43 @@ pub symbols_start : (A w : List ℕ) → SymbolsTo A w 0 1
 symbols_start A w = whichever A w 0 1 (λ leaves. read_start A (allowed leaves A) w)
 
 -- one symbol, up to the next position
-pub read_one : (A w : List ℕ) (i due : ℕ) → SymbolsTo A w i due → (j a : ℕ) → j ≡ i + 1 → a ≡ get_or A (get_or w i 0) 0 → a ≤ 65535
-    → i < length w → i < due → get_or w i 0 < length A → SymbolsTo A w j (due + a)
-read_one A w i due r j a next arity small within more one =
+pub read_one : (A w : List ℕ) (i due : ℕ) → SymbolsTo A w i due → (j d a : ℕ) → j ≡ i + 1 → d ≡ due + a → a ≡ get_or A (get_or w i 0) 0 → a ≤ 65535
+    → i < length w → i < due → get_or w i 0 < length A → SymbolsTo A w j d
+read_one A w i due r j d a next after arity small within more one =
     let on = λ (leaves : Leaves). read_next A (allowed leaves A) w i due (r.3 leaves) within more (allowed-symbol leaves A (get_or w i 0) one) (omega (arith, arity)) in
-    subst (λ (k : ℕ). SymbolsTo A w k (due + a)) (sym next) (subst (λ (k : ℕ). SymbolsTo A w (i + 1) (due + k)) (sym arity) (whichever A w (i + 1) (due + get_or A (get_or w i 0) 0) on))
+    let sum : due + get_or A (get_or w i 0) 0 ≡ d = omega (arith, after, arity) in
+    subst (λ (k : ℕ). SymbolsTo A w k d) (sym next) (subst (SymbolsTo A w (i + 1)) sum (whichever A w (i + 1) (due + get_or A (get_or w i 0) 0) on))
+
+-- four symbols from p on, one after the other, where d more are due than are read: each is read if there are still more
+module _ (A w : List ℕ) (p d end : ℕ) (read : SymbolsTo A w p (p + d)) (below : BelowTo (length A) w end) (four : p + 4 ≤ end) where
+  symbol : (q : ℕ) → q < p + 4 → (q < length w) × (get_or w q 0 < length A)
+  symbol q h = (omega (arith, four, below.0), below.1 q (omega (arith, four)))
+
+  module _ (more : d ≢ 0) (a : ℕ) (first : (a ≡ get_or A (get_or w p 0) 0) × (a ≤ 65535)) where
+    pub read_first : SymbolsTo A w (p + 1) (p + (d + a))
+    read_first =
+        let here = symbol p (omega arith) in
+        read_one A w p (p + d) read (p + 1) (p + (d + a)) a refl (omega arith) first.0 first.1 here.0 (omega (arith, more)) here.1
+
+    module _ (more_1 : d + a ≢ 1) (b : ℕ) (second : (b ≡ get_or A (get_or w (p + 1) 0) 0) × (b ≤ 65535)) where
+      pub read_second : SymbolsTo A w (p + 2) (p + (d + a + b))
+      read_second =
+          let here = symbol (p + 1) (omega arith) in
+          read_one A w (p + 1) (p + (d + a)) read_first (p + 2) (p + (d + a + b)) b (omega arith) (omega arith) second.0 second.1
+          here.0 (omega (arith, read_first.1, more_1)) here.1
+
+      module _ (more_2 : d + a + b ≢ 2) (c : ℕ) (third : (c ≡ get_or A (get_or w (p + 2) 0) 0) × (c ≤ 65535)) where
+        pub read_third : SymbolsTo A w (p + 3) (p + (d + a + b + c))
+        read_third =
+            let here = symbol (p + 2) (omega arith) in
+            read_one A w (p + 2) (p + (d + a + b)) read_second (p + 3) (p + (d + a + b + c)) c (omega arith) (omega arith) third.0 third.1
+            here.0 (omega (arith, read_second.1, more_2)) here.1
+
+        pub read_fourth : d + a + b + c ≢ 3 → (e : ℕ) → (e ≡ get_or A (get_or w (p + 3) 0) 0) × (e ≤ 65535) → SymbolsTo A w (p + 4) (p + 4 + (d + a + b + c + e - 4))
+        read_fourth more_3 e fourth =
+            let here = symbol (p + 3) (omega arith) in
+            read_one A w (p + 3) (p + (d + a + b + c)) read_third (p + 4) (p + 4 + (d + a + b + c + e - 4)) e (omega arith)
+            (omega (arith, read_third.1, more_3)) fourth.0 fourth.1 here.0 (omega (arith, read_third.1, more_3)) here.1
 
 -- where m symbols are due, the next m can be read at once
 pub read_many : (A w : List ℕ) (i due : ℕ) → SymbolsTo A w i due → (m : ℕ) → i + m ≤ length w → i + m ≤ due
@@ -35,9 +68,9 @@ read_many A w i due r zero within many symbols small =
     subst (λ (d : ℕ). SymbolsTo A w (i + 0) d) same (subst (λ (k : ℕ). SymbolsTo A w k due) here r)
 read_many A w i due r (suc m) within many symbols small =
     let before = read_many A w i due r m (omega arith) (omega arith) (λ j h. symbols j (omega arith)) small in
-    let next = read_one A w (i + m) (due + children A w i m) before (i + suc m) (get_or A (get_or w (i + m) 0) 0) (omega arith) refl (small (get_or w (i + m) 0)) (omega arith) (omega arith) (symbols m (omega arith)) in
-    let sum : due + children A w i m + get_or A (get_or w (i + m) 0) 0 ≡ due + (children A w i m + get_or A (get_or w (i + m) 0) 0) = omega arith in
-    subst (λ (d : ℕ). SymbolsTo A w (i + suc m) d) sum next
+    let last = get_or A (get_or w (i + m) 0) 0 in
+    read_one A w (i + m) (due + children A w i m) before (i + suc m) (due + (children A w i m + last)) last (omega arith) (omega arith) refl (small (get_or w (i + m) 0))
+    (omega arith) (omega arith) (symbols m (omega arith))
 
 -- the stretch s of m numbers of w from i on
 module _ (w s : List ℕ) (i m : ℕ) (within : i + m ≤ length w) (is : s ≡ take m (drop i w)) where

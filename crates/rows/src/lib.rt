@@ -1,7 +1,7 @@
 // The kernel: what is wrong with an alphabet, a row, a pattern or a replacement, and the checks that say so.
 #![tactic(auto)]
 
-ghost use Rattle.std.specs.Prelude.{◌≡◌, Bool, List, [], ℕ, ◌+◌, ◌-◌, ◌≤◌, ◌<◌, length, get_or};
+ghost use Rattle.std.specs.Prelude.{◌≡◌, Bool, List, [], ℕ, ◌+◌, ◌-◌, ◌*◌, ◌≤◌, ◌<◌, length, get_or};
 ghost use Rattle.rows.specs.Row.{verdict, is_variable, allowed, sized, reading};
 ghost use Rattle.rows.specs.Reading.{ReadTo, Reads, BelowTo, SymbolsTo, children};
 ghost use Rattle.rows.specs.Limits.{row_most};
@@ -173,21 +173,22 @@ fn largest<E: Piece>(part: &[E]) -> u16
 // So many numbers are looked at together.
 const GLANCE: usize = 64;
 
-// How many numbers at the front are below the bound for sure: whole stretches, up to the first that has another number, and the rest.
-// A stretch is so many numbers wherever it begins: for a length that is computed the compiler makes slower code.
+// How many numbers at the front are below the bound for sure: whole stretches, up to the first that has another number, or all.
+// For a length that is computed the compiler makes slower code: so all stretches have the same length, and the last one reaches back.
 fn count_below<E: Piece>(bound: usize, list: &[E]) -> usize
+    requires { 64 ≤ length (E.numbers list.now) }
     ensures { BelowTo bound (E.numbers list.now) result }
 {
     let n = E::count(list);
-    for k in 0..n / GLANCE {
+    let before = (n - 1) / GLANCE;
+    for k in 0..before {
         let from = k * GLANCE;
         if bound <= usize::from(largest(E::part(list, from, from + GLANCE))) {
             return from;
         }
     }
-    let whole = n / GLANCE * GLANCE;
-    if bound <= usize::from(largest(E::part(list, whole, n))) {
-        return whole;
+    if bound <= usize::from(largest(E::part(list, n - GLANCE, n))) {
+        return before * GLANCE;
     }
     n
 }
@@ -324,14 +325,14 @@ fn arity_at<E: Piece>(arities: &[u16], row: &[E], i: usize) -> usize
     usize::from(arities[usize::from(E::number_at(row, i))])
 }
 
-// So many symbols are read at once where as many are due: each takes one, so that only their children have to be counted.
+// Stretches of so many symbols are read at once where as many are due: each symbol takes one, and only their children have to be counted.
 const STRETCH: usize = 16;
 
-// How many children the symbols of a stretch have in all.
+// How many children the symbols of a part have in all.
 // Stays a loop over places: a list of pieces gives its numbers by place alone.
 fn add_arities<E: Piece>(arities: &[u16], part: &[E]) -> usize
-    requires { (length (E.numbers part.now) ≤ 16) × ((k : ℕ) → k < length (E.numbers part.now) → get_or (E.numbers part.now) k 0 < length arities.now) }
-    ensures { (result ≡ children arities.now (E.numbers part.now) 0 (length (E.numbers part.now))) × (result ≤ 1048560) }
+    requires { (length (E.numbers part.now) ≤ row_most) × ((k : ℕ) → k < length (E.numbers part.now) → get_or (E.numbers part.now) k 0 < length arities.now) }
+    ensures { (result ≡ children arities.now (E.numbers part.now) 0 (length (E.numbers part.now))) × (result ≤ 65535 * length (E.numbers part.now)) }
 {
     let mut sum: usize = 0;
     for k in 0..E::count(part) {
@@ -340,7 +341,8 @@ fn add_arities<E: Piece>(arities: &[u16], part: &[E]) -> usize
     sum
 }
 
-// Reads the symbols up to `end`, four a turn, and stops where nothing may be due any more.
+// Reads the symbols up to `end`, four a turn, and stops where nothing is due any more. What is counted is how many more are due than
+// are read: to compare that with a constant takes less than to compare two numbers that both grow.
 // Stays a loop by index: four symbols a turn, and the place reached is the answer.
 fn read_fours<E: Piece>(arities: &[u16], row: &[E], from: Reached, end: usize) -> Reached
     requires read { SymbolsTo arities.now (E.numbers row.now) from.at from.due × (length (E.numbers row.now) ≤ row_most) }
@@ -348,28 +350,43 @@ fn read_fours<E: Piece>(arities: &[u16], row: &[E], from: Reached, end: usize) -
     ensures { SymbolsTo arities.now (E.numbers row.now) result.at result.due }
 {
     let mut i = from.at;
-    let mut due = from.due;
+    let mut more = from.due - from.at;
     while i + 4 <= end {
-        let second = due + arity_at(arities, row, i);
-        if due == i || second == i + 1 {
-            return Reached { at: i, due };
+        if more == 0 {
+            return Reached { at: i, due: i };
         }
-        let third = second + arity_at(arities, row, i + 1);
-        let fourth = third + arity_at(arities, row, i + 2);
-        if third == i + 2 || fourth == i + 3 {
+        let second = more + arity_at(arities, row, i);
+        if second == 1 {
             return Reached {
-                at: i + 2,
-                due: third,
+                at: i + 1,
+                due: i + 1,
             };
         }
-        due = fourth + arity_at(arities, row, i + 3);
+        let third = second + arity_at(arities, row, i + 1);
+        if third == 2 {
+            return Reached {
+                at: i + 2,
+                due: i + 2,
+            };
+        }
+        let fourth = third + arity_at(arities, row, i + 2);
+        if fourth == 3 {
+            return Reached {
+                at: i + 3,
+                due: i + 3,
+            };
+        }
+        more = fourth + arity_at(arities, row, i + 3) - 4;
         i += 4;
     }
-    Reached { at: i, due }
+    Reached {
+        at: i,
+        due: i + more,
+    }
 }
 
-// Reads at most the n numbers at the front, which are symbols: a stretch where as many are due, else so many as are looked at together,
-// by fours. Stops where nothing may be due any more, and where less than a stretch is left.
+// Reads at most the n numbers at the front, which are symbols: all stretches at once that are due, else so many as are looked at
+// together, by fours. Stops where nothing is due any more, and where less than a stretch is left.
 // Stays a loop by index: the place reached is the answer.
 fn read_symbols<E: Piece>(arities: &[u16], row: &[E], n: usize) -> Reached
     requires { BelowTo (length arities.now) (E.numbers row.now) n × (length (E.numbers row.now) ≤ row_most) }
@@ -378,10 +395,10 @@ fn read_symbols<E: Piece>(arities: &[u16], row: &[E], n: usize) -> Reached
     let mut i = 0;
     let mut due: usize = 1;
     while i + STRETCH <= n {
-        let end = i + STRETCH;
-        if end <= due {
-            due += add_arities(arities, E::part(row, i, end));
-            i = end;
+        let whole = (n.min(due) - i) / STRETCH * STRETCH;
+        if 0 < whole {
+            due += add_arities(arities, E::part(row, i, i + whole));
+            i += whole;
             continue;
         }
         let far = n.min(i + GLANCE);
@@ -395,18 +412,28 @@ fn read_symbols<E: Piece>(arities: &[u16], row: &[E], n: usize) -> Reached
     Reached { at: i, due }
 }
 
-// Is it a tree's prefix notation, with these leaves? The symbols at the front are read fast, without asking of each
-// whether it is one; a list shorter than a stretch is sooner read number by number.
+// The same as `check_row`, of a list that is looked at first: the symbols at the front are read fast, without asking of each whether
+// it is one. It stays a function of its own, so that a short list is read where it is checked.
+#[inline(never)]
+fn check_long<E: Piece>(arities: &[u16], row: &[E], leaves: Leaves) -> Result<(), Fault>
+    requires { (64 ≤ length (E.numbers row.now)) × (length (E.numbers row.now) ≤ row_most) }
+    ensures { result ≡ verdict arities.now (allowed leaves arities.now) 1 0 (E.numbers row.now) }
+{
+    let n = count_below(arities.len(), row);
+    let front = read_symbols(arities, row, n);
+    read_on(arities, row, leaves, front)
+}
+
+// Is it a tree's prefix notation, with these leaves? A list of fewer numbers than are looked at together is read number by number.
+#[inline(always)]
 pub fn check_row<E: Piece>(arities: &[u16], row: &[E], leaves: Leaves) -> Result<(), Fault>
     requires { length (E.numbers row.now) ≤ row_most }
     ensures { result ≡ verdict arities.now (allowed leaves arities.now) 1 0 (E.numbers row.now) }
 {
-    if E::count(row) < STRETCH {
+    if E::count(row) < GLANCE {
         return read_on(arities, row, leaves, Reached { at: 0, due: 1 });
     }
-    let n = count_below(arities.len(), row);
-    let front = read_symbols(arities, row, n);
-    read_on(arities, row, leaves, front)
+    check_long(arities, row, leaves)
 }
 
 // Refusals 7, 8 and 9: the row is one tree's.
